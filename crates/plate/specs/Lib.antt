@@ -1,0 +1,5 @@
+pub mod Bits
+pub mod Faults
+pub mod Rows
+pub mod Plans
+pub mod Reading

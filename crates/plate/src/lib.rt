@@ -1,0 +1,6 @@
+// The plan plate: its rows are read exactly, or the first rule that it breaks is named.
+mod cursor;
+mod faults;
+mod find;
+pub mod frame;
+pub mod row;
