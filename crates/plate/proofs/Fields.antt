@@ -5,7 +5,8 @@ use Prim.Native.Nat.{ℕ, zero, suc, _+_, _*_, _/_, _%_, _^_, _-_, _<_, _≤_}
 use native.Mathlib.Omega.{arith}
 use native.Mathlib.Numerals.{add-one}
 use native.Mathlib.Nat.{pow-suc, add-zero, add-suc, add-assoc, mul-assoc}
-use lib.ListN.{getD}
+use lib.ListN.{getD, drop}
+use Rattle.std.proofs.shelf.Lists.{getD-drop}
 use lib.Pow.{pow-pos, pow-mono}
 use Rattle.std.proofs.shelf.Bits.{mod-below, mod-pow-add, shr-shr}
 use Rattle.plate.specs.Bits.{bit, field}
@@ -90,3 +91,37 @@ field-two bs p n h l =
     let b = rw f at (field-within bs (p / 8 + 1) 0 low (omega arith)) in
     let s : field bs p n ≡ field bs p (8 - i) * 2 ^ low + field bs (p + (8 - i)) low = rw g at (field-split bs p (8 - i) low) in
     sym (s ∙ rw (a, b))
+
+-- a field of what is left after k bytes
+pub field-drop : (bs : List ℕ) (k p n : ℕ) → field (drop k bs) p n ≡ field bs (8 * k + p) n
+unfolding field bit
+field-drop bs k p zero = refl
+field-drop bs k p (suc n) =
+    let q : ℕ = p + n in
+    let a : (8 * k + p + n) / 8 ≡ k + q / 8 = omega arith in
+    let b : (8 * k + p + n) % 8 ≡ q % 8 = omega arith in
+    let here : bit (drop k bs) (p + n) ≡ bit bs (8 * k + p + n) = rw (a, b, getD-drop k bs (q / 8) 0) in
+    rw (field-drop bs k p n, here)
+
+-- 12 bits from the top of byte k, 12 from its middle, and 8 from its middle
+pub field-high : (bs : List ℕ) (k : ℕ) → field bs (8 * k) 12 ≡ getD bs k 0 % 256 * 16 + getD bs (k + 1) 0 / 16 % 16
+field-high bs k =
+    let p : 8 * k + 0 ≡ 8 * k = omega arith in
+    let q : 8 * (k + 1) + 0 ≡ 8 * k + 8 = omega arith in
+    let a : field bs (8 * k) 8 ≡ getD bs k 0 / 1 % 256 = rw p at (field-within bs k 0 8 (omega arith)) in
+    let b : field bs (8 * k + 8) 4 ≡ getD bs (k + 1) 0 / 16 % 16 = rw q at (field-within bs (k + 1) 0 4 (omega arith)) in
+    omega (arith, field-split bs (8 * k) 8 4)
+
+pub field-middle : (bs : List ℕ) (k : ℕ) → field bs (8 * k + 4) 12 ≡ getD bs k 0 % 16 * 256 + getD bs (k + 1) 0 % 256
+field-middle bs k =
+    let q : 8 * (k + 1) + 0 ≡ 8 * k + 4 + 4 = omega arith in
+    let a : field bs (8 * k + 4) 4 ≡ getD bs k 0 / 1 % 16 = field-within bs k 4 4 (omega arith) in
+    let b : field bs (8 * k + 4 + 4) 8 ≡ getD bs (k + 1) 0 / 1 % 256 = rw q at (field-within bs (k + 1) 0 8 (omega arith)) in
+    omega (arith, field-split bs (8 * k + 4) 4 8)
+
+pub field-byte : (bs : List ℕ) (k : ℕ) → field bs (8 * k + 4) 8 ≡ getD bs k 0 % 16 * 16 + getD bs (k + 1) 0 / 16 % 16
+field-byte bs k =
+    let q : 8 * (k + 1) + 0 ≡ 8 * k + 4 + 4 = omega arith in
+    let a : field bs (8 * k + 4) 4 ≡ getD bs k 0 / 1 % 16 = field-within bs k 4 4 (omega arith) in
+    let b : field bs (8 * k + 4 + 4) 4 ≡ getD bs (k + 1) 0 / 16 % 16 = rw q at (field-within bs (k + 1) 0 4 (omega arith)) in
+    omega (arith, field-split bs (8 * k + 4) 4 4)

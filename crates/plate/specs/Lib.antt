@@ -3,3 +3,4 @@ pub mod Faults
 pub mod Rows
 pub mod Plans
 pub mod Reading
+pub mod Readers

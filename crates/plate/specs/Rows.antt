@@ -40,13 +40,17 @@ counted-bits bs p = 32 + 8 * ranks-count bs p
 abbrev pub counted-at : List ℕ → ℕ → Counted
 counted-at bs p = record { gap = field bs p 12; budget = field bs (p + 12) 12; ranks = rank-bytes bs p }
 
--- its first fault: incomplete, a spare field, and then the rules of its kind
+-- its first fault once it is complete: a spare field, and then the rules of its kind
+abbrev pub counted-content : (row p gap budget spare : ℕ) → List ℕ → Option Denial
+counted-content row p gap budget spare ranks =
+    orOther (spare-fault row (p + 27) spare) (counted-fault row p gap budget ranks)
+
+-- its first fault
 unfoldable pub counted-denial : List ℕ → (p row : ℕ) → Option Denial
 counted-denial bs p row =
     orOther (short-fault bs row (p / 8 + 4))
     (orOther (short-fault bs row ((p + 32) / 8 + ranks-count bs p))
-    (orOther (spare-fault row (p + 27) (field bs (p + 27) 5))
-    (counted-fault row p (field bs p 12) (field bs (p + 12) 12) (rank-bytes bs p))))
+    (counted-content row p (field bs p 12) (field bs (p + 12) 12) (field bs (p + 27) 5) (rank-bytes bs p)))
 
 -- The frame that stands in front, and all the frames, three bytes each: budget 12 bits, rank 8, spare 4.
 abbrev pub frame-of : List ℕ → Frame
@@ -72,14 +76,19 @@ abbrev pub framed-at : List ℕ → ℕ → Framed
 framed-at bs p = record { gap = field bs p 12; frames = frames-of (frame-bytes bs p) }
 
 -- the first frame, of so many, whose spare bits are not zero
-unfoldable pub spare-frame : List ℕ → ℕ → Option ℕ
+abbrev pub spare-frame : List ℕ → ℕ → Option ℕ
 spare-frame bytes n = first (λ i. ltb 0 (field bytes (24 * i + 20) 4)) n
 
--- its first fault: incomplete, a spare field, and then the rules of its kind
+-- its first fault once it is complete: a spare field, and then the rules of its kind
+abbrev pub framed-content : (row p gap spare : ℕ) → List ℕ → Option Denial
+framed-content row p gap spare bytes =
+    orOther (spare-fault row (p + 15) spare)
+    (orOther (mapped (λ i. denied Spare row (p + 36 + 24 * i)) (spare-frame bytes (length bytes / 3)))
+    (framed-fault row p gap (frames-of bytes)))
+
+-- its first fault
 unfoldable pub framed-denial : List ℕ → (p row : ℕ) → Option Denial
 framed-denial bs p row =
     orOther (short-fault bs row (p / 8 + 2))
     (orOther (short-fault bs row ((p + 16) / 8 + 3 * frames-count bs p))
-    (orOther (spare-fault row (p + 15) (field bs (p + 15) 1))
-    (orOther (mapped (λ i. denied Spare row (p + 36 + 24 * i)) (spare-frame (frame-bytes bs p) (frames-count bs p)))
-    (framed-fault row p (field bs p 12) (frames-of (frame-bytes bs p))))))
+    (framed-content row p (field bs p 12) (field bs (p + 15) 1) (frame-bytes bs p)))

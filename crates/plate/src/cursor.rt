@@ -29,6 +29,7 @@ impl<'a> Cursor<'a> {
         requires within { ⌜ now self .place + n ≤ 8 * length (now (now self .plate)) ⌝ ∗ ⌜ now self .place < 2 ^ 32 ⌝ }
         ensures plate { λ _. ⌜ now (now (self .exit) .plate) ≡ now (now (self .entry) .plate) ⌝ }
         ensures value { λ r. ⌜ r ≡ field (now (now (self .entry) .plate)) (now (self .entry) .place) n ⌝ }
+        ensures small { λ r. ⌜ r < 2 ^ n ⌝ }
         ensures place { λ _. ⌜ now (self .exit) .place ≡ now (self .entry) .place + n ⌝ }
     {
         let at = self.place / 8;
@@ -59,6 +60,7 @@ impl<'a> Cursor<'a> {
         requires within { ⌜ now self .place / 8 + n ≤ length (now (now self .plate)) ⌝ ∗ ⌜ now self .place < 2 ^ 32 ⌝ ∗ ⌜ n < 2 ^ 32 ⌝ }
         ensures plate { λ _. ⌜ now (now (self .exit) .plate) ≡ now (now (self .entry) .plate) ⌝ }
         ensures value { λ r. ⌜ now r ≡ take n (drop (now (self .entry) .place / 8) (now (now (self .entry) .plate))) ⌝ }
+        ensures len { λ r. ⌜ length (now r) ≡ n ⌝ }
         ensures place { λ _. ⌜ now (self .exit) .place ≡ now (self .entry) .place + 8 * n ⌝ }
     {
         let at = self.place / 8;

@@ -3,4 +3,7 @@ mod cursor;
 mod faults;
 mod find;
 pub mod frame;
+pub mod reader;
+mod reading;
 pub mod row;
+mod rows;
