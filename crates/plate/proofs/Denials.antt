@@ -1,12 +1,22 @@
 -- How the parts of a row, as they are read, make up its first fault.
 use mathlib.Core.List.{List}
 use mathlib.Core.Path.{_≡_, refl, sym}
-use Prim.Native.Nat.{ℕ, _+_, _*_, _/_}
-use lib.ListN.{take, drop}
+use mathlib.Core.Bool.{not}
+use Prim.Native.Nat.{ℕ, _+_, _*_, _/_, _%_, _<_, _≤_}
+use native.Mathlib.Omega.{arith}
+use lib.Dec.{eqb}
+use lib.ListN.{length, getD, take, drop}
+use Rattle.std.specs.Options.{orOther}
+use Rattle.std.proofs.shelf.Tests.{le-ltb}
 use Rattle.std.specs.declared.option.Option.{Option}
 use Rattle.std.specs.declared.option.Option.the-variants.{Some, None}
 use Rattle.denial.specs.declared.Denial.{Denial}
+use Rattle.denial.specs.declared.Rule.the-variants.{Edition}
+use Rattle.denial.specs.Numbers.{denied}
 use Rattle.plate.specs.Bits.{field}
+use Rattle.plate.specs.Faults.{when}
+use Rattle.plate.specs.Plans.{counts-fault, header-denial}
+use Rattle.plate.proofs.Fields.{header-edition, header-counted, header-framed}
 use Rattle.plate.specs.Rows.{short-fault, ranks-count, counted-content, counted-denial, frames-count, framed-content, framed-denial}
 
 -- A miss-counted row at bit p whose fixed fields are there: bs′ is the plate after they were read, and place the bit after them.
@@ -50,3 +60,18 @@ unfolding framed-denial
 framed-whole bs bs′ p row gap count spare place bytes o eb eg ec es ep er enough more found =
     let e : None ≡ short-fault bs row ((p + 16) / 8 + 3 * frames-count bs p) = rw (eb, ep, ec) at more in
     rw (← enough, ← e) (rw (er, eg, es, eb, ep, ec) at (sym found))
+
+-- The header, by its two bytes.
+pub header-counts : (bs : List ℕ) → getD bs 0 0 < 256 → getD bs 1 0 < 256
+    → (field bs 0 4 ≡ getD bs 0 0 / 16) × (field bs 4 6 ≡ getD bs 0 0 % 16 * 4 + getD bs 1 0 / 64) × (field bs 10 6 ≡ getD bs 1 0 % 64)
+header-counts bs h l =
+    (omega (arith, header-edition bs), omega (arith, header-counted bs), header-framed bs)
+
+pub header-whole : (bs : List ℕ) → 2 ≤ length bs → getD bs 0 0 < 256 → getD bs 1 0 < 256
+    → header-denial bs
+    ≡ orOther (when (not (eqb (getD bs 0 0 / 16) 1)) (denied Edition 255 0))
+    (counts-fault (getD bs 0 0 % 16 * 4 + getD bs 1 0 / 64) (getD bs 1 0 % 64))
+unfolding header-denial
+header-whole bs long h l =
+    let e = header-counts bs h l in
+    rw (le-ltb (length bs) 2 long, e .0, e .1, e .2)

@@ -125,3 +125,16 @@ field-byte bs k =
     let a : field bs (8 * k + 4) 4 ≡ getD bs k 0 / 1 % 16 = field-within bs k 4 4 (omega arith) in
     let b : field bs (8 * k + 4 + 4) 4 ≡ getD bs (k + 1) 0 / 16 % 16 = rw q at (field-within bs (k + 1) 0 4 (omega arith)) in
     omega (arith, field-split bs (8 * k + 4) 4 4)
+
+-- the fields of the header
+pub header-edition : (bs : List ℕ) → field bs 0 4 ≡ getD bs 0 0 / 16 % 16
+header-edition bs = field-within bs 0 0 4 (omega arith)
+
+pub header-counted : (bs : List ℕ) → field bs 4 6 ≡ getD bs 0 0 % 16 * 4 + getD bs 1 0 / 64 % 4
+header-counted bs =
+    let a : field bs 4 4 ≡ getD bs 0 0 / 1 % 16 = field-within bs 0 4 4 (omega arith) in
+    let b : field bs 8 2 ≡ getD bs 1 0 / 64 % 4 = field-within bs 1 0 2 (omega arith) in
+    omega (arith, field-split bs 4 4 2)
+
+pub header-framed : (bs : List ℕ) → field bs 10 6 ≡ getD bs 1 0 % 64
+header-framed bs = omega (arith, field-within bs 1 2 6 (omega arith))

@@ -1,7 +1,8 @@
 -- Reading row by row. Assumes nothing.
 use mathlib.Core.Bool.{cond}
 use mathlib.Core.List.{List}
-use Prim.Native.Nat.{ℕ, _+_, _-_}
+use mathlib.Core.Path.{_≡_}
+use Prim.Native.Nat.{ℕ, _+_, _-_, _*_, _%_, _≤_}
 use lib.Dec.{eqb, ltb}
 use denote.Ref.{now}
 use Rattle.std.specs.declared.option.Option.{Option}
@@ -46,10 +47,19 @@ pub record State : Type 0 where
   pub counted : ℕ
   pub framed : ℕ
 
+-- what every reader keeps: rows begin at a byte, take at most 96 or 208 bits each, and are at most 32
+pub record Kept (s : State) : Type 0 where
+  pub aligned : s .place % 8 ≡ 0
+  pub within : s .place + (96 * s .counted + 208 * s .framed) ≤ 4880
+  pub few : s .row + (s .counted + s .framed) ≤ 32
+
+-- right after the header
+abbrev pub first-state : List ℕ → State
+first-state bs = record { place = 16; row = 0; counted = field bs 4 6; framed = field bs 10 6 }
+
 -- past the header
 abbrev pub opened : List ℕ → State → State
-opened bs s =
-    cond (eqb (s .place) 0) (record { place = 16; row = 0; counted = field bs 4 6; framed = field bs 10 6 }) s
+opened bs s = cond (eqb (s .place) 0) (first-state bs) s
 
 abbrev pub open-denial : List ℕ → State → Option Denial
 open-denial bs s = cond (eqb (s .place) 0) (header-denial bs) None

@@ -3,10 +3,12 @@ ghost use mathlib.Core.Path.{_≡_};
 ghost use mathlib.Core.Bool.{cond, true};
 ghost use Prim.Native.Nat.{ℕ, _+_, _-_, _*_, _/_, _%_, _^_, _<_, _≤_};
 ghost use lib.ListN.{length};
+ghost use Rattle.std.specs.Options.{Cases as BySome};
 ghost use Rattle.std.specs.Results.{Cases, isOk};
+ghost use Rattle.std.specs.declared.option.Option.the-variants.{Some, None};
 ghost use Rattle.plate.specs.Bits.{field};
 ghost use Rattle.plate.specs.Plans.{unless, counts-fault, extra-fault, header-denial};
-ghost use Rattle.plate.specs.Reading.{told-next, open-denial, opened, row-denial, next-row, after-row, next-denial};
+ghost use Rattle.plate.specs.Reading.{Kept, first-state, told-next, open-denial, opened, row-denial, next-row, after-row, next-denial};
 ghost use Rattle.plate.specs.Readers.{state, state-at, plate-of, plate-at};
 use super::cursor::Cursor;
 use super::reader::Position;
@@ -19,7 +21,8 @@ use denial::Rule;
 
 // Each number of rows is at most 16, and they are not both 0.
 pub(crate) fn counts_fault(counted: u8, framed: u8) -> Option<Denial>
-    ensures { λ r. ⌜ r ≡ counts-fault counted framed ⌝ }
+    ensures value { λ r. ⌜ r ≡ counts-fault counted framed ⌝ }
+    ensures few { λ r. ⌜ BySome r ((counted ≤ 16) × (framed ≤ 16)) (λ _. Unit {0}) ⌝ }
 {
     if counted > 16 || (counted == 0 && framed == 0) {
         return Some(Rule::RowCounts.denies(255, 4));
@@ -39,4 +42,76 @@ fn extra_fault(cursor: Cursor) -> Option<Denial>
         return Some(Rule::Extra.denies(255, cursor.place as u16));
     }
     None
+}
+
+// The header: edition 4 bits, number of miss-counted rows 6, number of frame rows 6. The rest is rows.
+fn header(plate: &[u8]) -> Result<Position<'_>, Denial>
+    ensures { λ r. ⌜ Cases r
+        (λ at. (header-denial (now (plate .entry)) ≡ None) × (plate-at at ≡ now (plate .entry)) × (state-at at ≡ first-state (now (plate .entry)))
+        × (at .counted ≤ 16) × (at .framed ≤ 16))
+        (λ d. header-denial (now (plate .entry)) ≡ Some d) ⌝ }
+{
+    let [first, second, rest @ ..] = plate else {
+        return Err(Rule::Short.denies(255, 8 * plate.len() as u16));
+    };
+    if *first / 16 != 1 {
+        return Err(Rule::Edition.denies(255, 0));
+    }
+    let counted = *first % 16 * 4 + *second / 64;
+    let framed = *second % 64;
+    if let Some(denial) = counts_fault(counted, framed) {
+        return Err(denial);
+    }
+    let cursor = Cursor {
+        plate,
+        place: 8 * (plate.len() - rest.len()),
+    };
+    Ok(Position {
+        cursor,
+        row: 0,
+        counted,
+        framed,
+    })
+}
+
+// Past the header, which is read where nothing was read yet.
+fn opened<'a>(at: Position<'a>) -> Result<Position<'a>, Denial>
+    requires { ⌜ Kept (state-at (at)) ⌝ }
+    ensures { λ r. ⌜ Cases r
+        (λ x. (open-denial (plate-at (at .entry)) (state-at (at .entry)) ≡ None) × (plate-at x ≡ plate-at (at .entry))
+        × (state-at x ≡ opened (plate-at (at .entry)) (state-at (at .entry))) × Kept (state-at x))
+        (λ d. open-denial (plate-at (at .entry)) (state-at (at .entry)) ≡ Some d) ⌝ }
+{
+    if at.cursor.place > 0 {
+        return Ok(at);
+    }
+    header(at.cursor.plate)
+}
+
+// After a miss-counted row.
+fn past_counted<'a>(at: Position<'a>, cursor: Cursor<'a>) -> Position<'a>
+    requires { ⌜ 0 < at .counted ⌝ ∗ ⌜ at .row < 32 ⌝ }
+    ensures plate { λ r. ⌜ plate-at r ≡ now (cursor .entry .plate) ⌝ }
+    ensures state { λ r. ⌜ state-at r ≡ record { place = cursor .entry .place; row = at .entry .row + 1; counted = at .entry .counted - 1; framed = at .entry .framed } ⌝ }
+{
+    Position {
+        cursor,
+        row: at.row + 1,
+        counted: at.counted - 1,
+        framed: at.framed,
+    }
+}
+
+// After a frame row.
+fn past_framed<'a>(at: Position<'a>, cursor: Cursor<'a>) -> Position<'a>
+    requires { ⌜ 0 < at .framed ⌝ ∗ ⌜ at .row < 32 ⌝ }
+    ensures plate { λ r. ⌜ plate-at r ≡ now (cursor .entry .plate) ⌝ }
+    ensures state { λ r. ⌜ state-at r ≡ record { place = cursor .entry .place; row = at .entry .row + 1; counted = at .entry .counted; framed = at .entry .framed - 1 } ⌝ }
+{
+    Position {
+        cursor,
+        row: at.row + 1,
+        counted: at.counted,
+        framed: at.framed - 1,
+    }
 }
