@@ -115,3 +115,62 @@ fn past_framed<'a>(at: Position<'a>, cursor: Cursor<'a>) -> Position<'a>
         framed: at.framed - 1,
     }
 }
+
+// Past the header: the next row, or none after the last.
+fn advance<'a>(at: &mut Position<'a>) -> Result<Option<Row<'a>>, Denial>
+    requires { ⌜ Kept (state-at (now at)) ⌝ }
+    ensures plate { λ _. ⌜ plate-at (now (at .exit)) ≡ plate-at (now (at .entry)) ⌝ }
+    ensures result { λ r. ⌜ told-next r ≡ unless (row-denial (plate-at (now (at .entry))) (state-at (now (at .entry))))
+        (next-row (plate-at (now (at .entry))) (state-at (now (at .entry)))) ⌝ }
+    ensures after { λ r. ⌜ (isOk r ≡ true → state-at (now (at .exit)) ≡ after-row (plate-at (now (at .entry))) (state-at (now (at .entry)))) ⌝ }
+    ensures kept { λ r. ⌜ (isOk r ≡ true → Kept (state-at (now (at .exit)))) ⌝ }
+{
+    let mut cursor = at.cursor;
+    if at.counted > 0 {
+        let row = counted_row(&mut cursor, at.row)?;
+        *at = past_counted(*at, cursor);
+        return Ok(Some(row));
+    }
+    if at.framed > 0 {
+        let row = framed_row(&mut cursor, at.row)?;
+        *at = past_framed(*at, cursor);
+        return Ok(Some(row));
+    }
+    if let Some(denial) = extra_fault(cursor) {
+        return Err(denial);
+    }
+    Ok(None)
+}
+
+impl<'a> Reader<'a> {
+    // A reader of which nothing was read yet.
+    pub fn new(plate: &'a [u8]) -> Self
+        ensures plate { λ r. ⌜ plate-of r ≡ now (plate .entry) ⌝ }
+        ensures state { λ r. ⌜ state r ≡ record { place = 0; row = 0; counted = 0; framed = 0 } ⌝ }
+    {
+        let cursor = Cursor { plate, place: 0 };
+        Reader {
+            at: Position {
+                cursor,
+                row: 0,
+                counted: 0,
+                framed: 0,
+            },
+        }
+    }
+
+    // The next row, or none after the last. A refusal leaves the reader where it was.
+    pub fn next_row(&mut self) -> Result<Option<Row<'a>>, Denial>
+        ensures plate { λ _. ⌜ plate-of (now (self .exit)) ≡ plate-of (now (self .entry)) ⌝ }
+        ensures result { λ r. ⌜ told-next r ≡ unless (next-denial (plate-of (now (self .entry))) (state (now (self .entry))))
+            (next-row (plate-of (now (self .entry))) (opened (plate-of (now (self .entry))) (state (now (self .entry))))) ⌝ }
+        ensures after { λ r. ⌜ state (now (self .exit)) ≡ cond (isOk r)
+            (after-row (plate-of (now (self .entry))) (opened (plate-of (now (self .entry))) (state (now (self .entry)))))
+            (state (now (self .entry))) ⌝ }
+    {
+        let mut at = opened(self.at)?;
+        let row = advance(&mut at)?;
+        *self = Reader { at };
+        Ok(row)
+    }
+}

@@ -1,0 +1,67 @@
+-- One step of a reader, past the header.
+use mathlib.Core.Bool.{true, false, cond}
+use mathlib.Core.List.{List}
+use mathlib.Core.Path.{_≡_, refl, sym, ap, _∙_}
+use Prim.Native.Nat.{ℕ, _+_, _-_, _*_, _%_, _<_, _≤_}
+use native.Mathlib.Omega.{arith}
+use Rattle.std.specs.declared.option.Option.{Option}
+use Rattle.std.specs.declared.option.Option.the-variants.{Some, None}
+use Rattle.std.specs.declared.result.Result.{Result}
+use Rattle.std.specs.declared.result.Result.the-variants.{Ok, Err}
+use Rattle.std.proofs.shelf.Tests.{lt-ltb, le-ltb}
+use Rattle.denial.specs.declared.Denial.{Denial}
+use Rattle.plate.specs.Bits.{field}
+use Rattle.plate.specs.Rows.{counted-bits, counted-denial, framed-bits, framed-denial}
+use Rattle.plate.specs.Plans.{unless}
+use Rattle.plate.specs.Reading.{State, Kept, Handed, counted-here, framed-here, row-denial, next-row, after-row}
+use Rattle.plate.proofs.Fields.{field-low}
+
+-- a value came, so there was no fault
+pub unless-ok : {A : Type 0} (o : Option Denial) (x h : A) → Ok h ≡ unless o x → (o ≡ None) × (h ≡ x)
+unless-ok None x h e = (refl, cc)
+unless-ok (Some d) x h e = let z : _≡_ {A = ℕ} 0 1 = cc in absurd (omega arith)
+
+-- what a reader does at a row
+pub record Step (bs : List ℕ) (s t : State) (h : Handed) : Type 0 where
+  pub result : Ok (Some h) ≡ unless (row-denial bs s) (next-row bs s)
+  pub after : t ≡ after-row bs s
+  pub kept : Kept t
+
+pub step-counted : (bs : List ℕ) (s t : State) (h : Handed) (place : ℕ) → 0 < s .counted → Kept s
+    → Ok h ≡ unless (counted-denial bs (s .place) (s .row)) (counted-here bs (s .place))
+    → place ≡ s .place + counted-bits bs (s .place)
+    → t ≡ record { place = place; row = s .row + 1; counted = s .counted - 1; framed = s .framed }
+    → Step bs s t h
+step-counted bs s t h place l k e m w =
+    let test = lt-ltb 0 (s .counted) l in
+    let got = unless-ok (counted-denial bs (s .place) (s .row)) (counted-here bs (s .place)) h e in
+    let low = field-low bs (s .place + 24) 3 3 (omega arith) in
+    record {
+      result = rw (test, got .0, got .1);
+      after = rw (test, w, m);
+      kept = rw (w, m) (record {
+        aligned = omega (arith, k .aligned);
+        within = omega (arith, k .within);
+        few = omega (arith, k .few)
+      })
+    }
+
+pub step-framed : (bs : List ℕ) (s t : State) (h : Handed) (place : ℕ) → s .counted ≤ 0 → 0 < s .framed → Kept s
+    → Ok h ≡ unless (framed-denial bs (s .place) (s .row)) (framed-here bs (s .place))
+    → place ≡ s .place + framed-bits bs (s .place)
+    → t ≡ record { place = place; row = s .row + 1; counted = s .counted; framed = s .framed - 1 }
+    → Step bs s t h
+step-framed bs s t h place none l k e m w =
+    let skip = le-ltb 0 (s .counted) none in
+    let test = lt-ltb 0 (s .framed) l in
+    let got = unless-ok (framed-denial bs (s .place) (s .row)) (framed-here bs (s .place)) h e in
+    let low = field-low bs (s .place + 12) 3 3 (omega arith) in
+    record {
+      result = rw (skip, test, got .0, got .1);
+      after = rw (skip, test, w, m);
+      kept = rw (w, m) (record {
+        aligned = omega (arith, k .aligned);
+        within = omega (arith, k .within);
+        few = omega (arith, k .few)
+      })
+    }
