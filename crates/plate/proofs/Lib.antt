@@ -3,3 +3,4 @@ pub mod Firsts
 pub mod Frames
 pub mod Denials
 pub mod Steps
+pub mod Rests

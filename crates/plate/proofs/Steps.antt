@@ -4,11 +4,12 @@ use mathlib.Core.List.{List}
 use mathlib.Core.Path.{_≡_, refl, sym, ap, _∙_}
 use Prim.Native.Nat.{ℕ, _+_, _-_, _*_, _%_, _<_, _≤_}
 use native.Mathlib.Omega.{arith}
+use lib.Dec.{ltb}
 use Rattle.std.specs.declared.option.Option.{Option}
 use Rattle.std.specs.declared.option.Option.the-variants.{Some, None}
 use Rattle.std.specs.declared.result.Result.{Result}
 use Rattle.std.specs.declared.result.Result.the-variants.{Ok, Err}
-use Rattle.std.proofs.shelf.Tests.{lt-ltb, le-ltb}
+use Rattle.std.proofs.shelf.Tests.{lt-ltb, le-ltb, cond-both}
 use Rattle.denial.specs.declared.Denial.{Denial}
 use Rattle.plate.specs.Bits.{field}
 use Rattle.plate.specs.Rows.{counted-bits, counted-denial, framed-bits, framed-denial}
@@ -20,6 +21,17 @@ use Rattle.plate.proofs.Fields.{field-low}
 pub unless-ok : {A : Type 0} (o : Option Denial) (x h : A) → Ok h ≡ unless o x → (o ≡ None) × (h ≡ x)
 unless-ok None x h e = (refl, cc)
 unless-ok (Some d) x h e = let z : _≡_ {A = ℕ} 0 1 = cc in absurd (omega arith)
+
+-- a fault came, so there was one
+pub unless-err : {A : Type 0} (o : Option Denial) (x : A) (d : Denial) → Err d ≡ unless o x → o ≡ Some d
+unless-err None x d e = let z : _≡_ {A = ℕ} 0 1 = cc in absurd (omega arith)
+unless-err (Some c) x d e = cc
+
+-- a place only grows
+pub after-place : (bs : List ℕ) (s : State) → 0 < s .place → 0 < after-row bs s .place
+after-place bs s l =
+    cond-both (ltb 0 (s .counted)) _ _ (λ (t : State). 0 < t .place) (λ _. omega arith)
+    (λ _. cond-both (ltb 0 (s .framed)) _ _ (λ (t : State). 0 < t .place) (λ _. omega arith) (λ _. l))
 
 -- what a reader does at a row
 pub record Step (bs : List ℕ) (s t : State) (h : Handed) : Type 0 where

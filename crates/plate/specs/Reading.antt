@@ -15,7 +15,7 @@ use Rattle.plate.specs.declared.row.Row.{Row}
 use Rattle.plate.specs.declared.row.Row.the-variants.{MissCounted, Frames}
 use Rattle.plate.specs.Bits.{field}
 use Rattle.plate.specs.Rows.{rank-bytes, counted-denial, counted-bits, frame-bytes, framed-denial, framed-bits}
-use Rattle.plate.specs.Plans.{header-denial, extra-fault}
+use Rattle.plate.specs.Plans.{Plan, header-denial, extra-fault, counted-from}
 
 -- a row as it is handed out: its numbers, its rank or frame bytes, and their bit place
 pub data Handed : Type 0 where
@@ -86,3 +86,12 @@ after-row bs s =
 -- From any state: the first fault of what is read next.
 abbrev pub next-denial : List ℕ → State → Option Denial
 next-denial bs s = orOther (open-denial bs s) (row-denial bs (opened bs s))
+
+-- the rows to come, past the header
+abbrev pub rest-of : List ℕ → State → Result Plan Denial
+rest-of bs s = counted-from bs (s .counted) (s .framed) (s .place) (s .row)
+
+-- what is at fault, if anything
+abbrev pub fault-of : {A : Type 0} → Result A Denial → Option Denial
+fault-of (Ok x) = None
+fault-of (Err d) = Some d

@@ -1,4 +1,5 @@
 // The plan plate: its rows are read exactly, or the first rule that it breaks is named.
+pub mod accept;
 mod cursor;
 mod faults;
 mod find;

@@ -45,7 +45,7 @@ fn extra_fault(cursor: Cursor) -> Option<Denial>
 }
 
 // The header: edition 4 bits, number of miss-counted rows 6, number of frame rows 6. The rest is rows.
-fn header(plate: &[u8]) -> Result<Position<'_>, Denial>
+pub(crate) fn header(plate: &[u8]) -> Result<Position<'_>, Denial>
     ensures { λ r. ⌜ Cases r
         (λ at. (header-denial (now (plate .entry)) ≡ None) × (plate-at at ≡ now (plate .entry)) × (state-at at ≡ first-state (now (plate .entry)))
         × (at .counted ≤ 16) × (at .framed ≤ 16))

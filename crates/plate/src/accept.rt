@@ -1,0 +1,42 @@
+// Judging a whole plate.
+ghost use mathlib.Core.Path.{_≡_};
+ghost use Prim.Native.Nat.{_<_};
+ghost use Rattle.std.specs.Results.{Cases};
+ghost use Rattle.std.specs.declared.result.Result.the-variants.{Ok, Err};
+ghost use Rattle.plate.specs.Plans.{Plan, decode};
+ghost use Rattle.plate.specs.Reading.{rest-of, fault-of};
+ghost use Rattle.plate.specs.Readers.{state, plate-of};
+use super::reader::Reader;
+use super::reading::header;
+use denial::Denial;
+
+// How many rows of each kind a plate has.
+#[derive(Clone, Copy, PartialEq, Eq, Debug)]
+pub struct Counts {
+    pub counted: u8,
+    pub framed: u8,
+}
+
+// Reads all the rows to come.
+fn read_on(reader: &mut Reader) -> Result<(), Denial>
+    requires { ⌜ 0 < state (now reader) .place ⌝ }
+    ensures { λ r. ⌜ fault-of r ≡ fault-of (rest-of (plate-of (now (reader .entry))) (state (now (reader .entry)))) ⌝ }
+{
+    while let Some(_) = reader.next_row()? {}
+    Ok(())
+}
+
+// Reads the whole plate: the numbers of its rows, or its first fault.
+pub fn accept(plate: &[u8]) -> Result<Counts, Denial>
+    ensures { λ r. ⌜ Cases r
+        (λ n. ((plan : Plan) × (decode (now (plate .entry)) ≡ Ok plan)))
+        (λ d. decode (now (plate .entry)) ≡ Err d) ⌝ }
+{
+    let first = header(plate)?;
+    let mut reader = Reader { at: first };
+    read_on(&mut reader)?;
+    Ok(Counts {
+        counted: first.counted,
+        framed: first.framed,
+    })
+}
