@@ -4,3 +4,7 @@ pub mod Frames
 pub mod Denials
 pub mod Steps
 pub mod Rests
+pub mod Nones
+pub mod Counteds
+pub mod Halves
+pub mod Frameds
