@@ -145,7 +145,7 @@ bytes-are bs k =
     ap (λ t. take (3 * frames-count bs (8 * k)) (drop t bs)) e
 
 -- the first two of what is left after k bytes
-drop-two : (bs : List ℕ) (k : ℕ) → k + 2 ≤ length bs → drop k bs ≡ getD bs k 0 ∷ (getD bs (k + 1) 0 ∷ drop (k + 2) bs)
+pub drop-two : (bs : List ℕ) (k : ℕ) → k + 2 ≤ length bs → drop k bs ≡ getD bs k 0 ∷ (getD bs (k + 1) 0 ∷ drop (k + 2) bs)
 drop-two bs k h =
     let e : k + 1 + 1 ≡ k + 2 = omega arith in
     drop-more bs k 0 (omega arith) ∙ ap (λ t. getD bs k 0 ∷ t) (rw e at (drop-more bs (k + 1) 0 (omega arith)))

@@ -8,3 +8,4 @@ pub mod Nones
 pub mod Counteds
 pub mod Halves
 pub mod Frameds
+pub mod Trips
