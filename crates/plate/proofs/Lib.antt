@@ -9,3 +9,4 @@ pub mod Counteds
 pub mod Halves
 pub mod Frameds
 pub mod Trips
+pub mod Verdicts

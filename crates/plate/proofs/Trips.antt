@@ -249,3 +249,11 @@ few-bytes plan s =
       s .few-counted,
       s .few-framed,
     )
+
+-- an accepted plate has as many rows as its header says
+pub read-counts : (bs : List ℕ) → Bytes bs → (plan : Plan) → decode bs ≡ Ok plan
+    → (length (plan .counted) ≡ field bs 4 6) × (length (plan .framed) ≡ field bs 10 6)
+unfolding decode
+read-counts bs small plan e =
+    let got = past-ok (header-denial bs) (counted-from bs (field bs 4 6) (field bs 10 6) 16 0) plan e in
+    read-counted bs small (field bs 4 6) (field bs 10 6) 2 0 plan (got .1) .counts

@@ -134,3 +134,17 @@ Written-is-read = (plan : Plan) → Sound plan → decode (encode plan) ≡ Ok p
 -- a plate has at most 610 bytes
 abbrev pub Few-bytes : Type 0
 Few-bytes = (plan : Plan) → Sound plan → length (encode plan) ≤ 610
+
+-- what an accepted plate is: the encoding of one sound plan, with so many rows of each kind
+pub record Accepted (bs : List ℕ) (m n : ℕ) : Type 0 where
+  pub plan : Plan
+  pub decoded : decode bs ≡ Ok plan
+  pub sound : Sound plan
+  pub encoded : encode plan ≡ bs
+  pub counts : (length (plan .counted) ≡ m) × (length (plan .framed) ≡ n)
+  pub few : length bs ≤ 610
+
+-- what a refused plate is: the encoding of no sound plan, at fault first by d
+pub record Refused (bs : List ℕ) (d : Denial) : Type 0 where
+  pub first : decode bs ≡ Err d
+  pub never : (plan : Plan) → Sound plan → encode plan ≡ bs → ⊥

@@ -2,8 +2,7 @@
 ghost use mathlib.Core.Path.{_≡_};
 ghost use Prim.Native.Nat.{_<_};
 ghost use Rattle.std.specs.Results.{Cases};
-ghost use Rattle.std.specs.declared.result.Result.the-variants.{Ok, Err};
-ghost use Rattle.plate.specs.Plans.{Plan, decode};
+ghost use Rattle.plate.specs.Plans.{Accepted, Refused, Written-is-read};
 ghost use Rattle.plate.specs.Reading.{rest-of, fault-of};
 ghost use Rattle.plate.specs.Readers.{state, plate-of};
 use super::reader::Reader;
@@ -26,11 +25,11 @@ fn read_on(reader: &mut Reader) -> Result<(), Denial>
     Ok(())
 }
 
-// Reads the whole plate: the numbers of its rows, or its first fault.
+// Reads the whole plate: the numbers of its rows, or its first fault. A plate is accepted exactly if it is the encoding of
+// a sound plan.
 pub fn accept(plate: &[u8]) -> Result<Counts, Denial>
-    ensures { λ r. ⌜ Cases r
-        (λ n. ((plan : Plan) × (decode (now (plate .entry)) ≡ Ok plan)))
-        (λ d. decode (now (plate .entry)) ≡ Err d) ⌝ }
+    ensures verdict { λ r. ⌜ Cases r (λ n. Accepted (now (plate .entry)) (n .counted) (n .framed)) (λ d. Refused (now (plate .entry)) d) ⌝ }
+    ensures trips { λ _. ⌜ Written-is-read ⌝ }
 {
     let first = header(plate)?;
     let mut reader = Reader { at: first };
