@@ -14,7 +14,7 @@ use mathlib.Core.Logic.{inl, inr}
 use Rattle.std.proofs.shelf.Tests.{cases-lt, ltb-false, eqb-false, le-ltb, ne-eqb}
 use Rattle.plate.specs.declared.frame.Frame.{Frame}
 use Rattle.plate.specs.Bits.{field}
-use Rattle.plate.specs.Faults.{frame-at, bad-budget, framed-fault}
+use Rattle.plate.specs.Faults.{frame-at, bad-budget, no-rank, framed-fault}
 use Rattle.plate.specs.Rows.{Framed, frame-of, frames-of, frames-count, frame-bytes, framed-at, framed-denial}
 use Rattle.plate.specs.Plans.{Within, Bytes, Sound-framed, bytes-of-frame, framed-bytes}
 use Rattle.plate.proofs.Fields.{field-within, field-high, field-byte, field-drop, field-low}
@@ -111,7 +111,7 @@ fixed bs k =
 clean : (row p gap : ℕ) (frames : List Frame) → framed-fault row p gap frames ≡ None
     → Within 1 4095 gap × Within 1 8 (length frames)
     × ((i : ℕ) → i < length frames → bad-budget gap (frame-at frames i .budget) ≡ false)
-    × ((i : ℕ) → i < length frames → eqb (frame-at frames i .rank) 0 ≡ false)
+    × ((i : ℕ) → i < length frames → no-rank (frame-at frames i .rank) ≡ false)
 clean row p gap frames e =
     let a = or-none _ _ e in
     let b = or-none _ _ (a .1) in
@@ -120,7 +120,7 @@ clean row p gap frames e =
       ranged gap 4095 (when-none _ _ (b .0)),
       ranged (length frames) 8 (when-none _ _ (a .0)),
       first-all (λ i. bad-budget gap (frame-at frames i .budget)) (length frames) (mapped-none _ _ (c .0)),
-      first-all (λ i. eqb (frame-at frames i .rank) 0) (length frames) (mapped-none _ _ (c .1)),
+      first-all (λ i. no-rank (frame-at frames i .rank)) (length frames) (mapped-none _ _ (c .1)),
     )
 
 faultless : (row p : ℕ) (f : Framed) → Sound-framed f → framed-fault row p (f .gap) (f .frames) ≡ None
@@ -131,7 +131,7 @@ faultless row p f s =
       in-range (length (f .frames)) 8 (s .classes),
       in-range (f .gap) 4095 (s .gap),
       all-first (λ i. bad-budget (f .gap) (frame-at (f .frames) i .budget)) (length (f .frames)) (λ i l. in-range _ (f .gap) (here i l .0)),
-      all-first (λ i. eqb (frame-at (f .frames) i .rank) 0) (length (f .frames)) (λ i l. ne-eqb _ 0 (let w = here i l .1 in omega arith)),
+      all-first (λ i. no-rank (frame-at (f .frames) i .rank)) (length (f .frames)) (λ i l. in-range _ 255 (here i l .1)),
     )
 
 -- A row that is read, written again.
@@ -178,17 +178,17 @@ row-bytes bs k small long spare count none =
     rw (bytes-are bs k, ← drop-drop (3 * n) (k + 2) bs) (take-append-drop (3 * n) (drop (k + 2) bs)) in
     drop-two bs k (omega arith) ∙ rw (e0, e1, back, e2)
 
-frame-sound : (bs : List ℕ) (p : ℕ) (i : ℕ) → i < length (frames-of (frame-bytes bs p))
-    → bad-budget (field bs p 12) (frame-at (frames-of (frame-bytes bs p)) i .budget) ≡ false
-    → eqb (frame-at (frames-of (frame-bytes bs p)) i .rank) 0 ≡ false
-    → Within 1 (field bs p 12) (frame-at (frames-of (frame-bytes bs p)) i .budget) × Within 1 255 (frame-at (frames-of (frame-bytes bs p)) i .rank)
-frame-sound bs p i l budget rank =
-    let bytes : List ℕ = frame-bytes bs p in
-    let at = frames-at bytes i (record { budget = 0; rank = 0 }) (omega (arith, frames-length bytes)) in
-    let low = field-low bytes (24 * i + 12) 8 8 (omega arith) in
-    let nonzero = eqb-false (frame-at (frames-of bytes) i .rank) 0 rank in
-    let same : frame-at (frames-of bytes) i .rank ≡ field bytes (24 * i + 12) 8 = ap (λ (x : Frame). x .rank) at in
-    (ranged (frame-at (frames-of bytes) i .budget) (field bs p 12) budget, (omega arith, omega arith))
+-- a row of numbers with nothing at fault keeps the rules of its kind
+pub fault-sound : (row p gap : ℕ) (frames : List Frame) → framed-fault row p gap frames ≡ None
+    → Sound-framed (record { gap = gap; frames = frames })
+fault-sound row p gap frames e =
+    let w = clean row p gap frames e in
+    record {
+      gap = w .0;
+      classes = w .1;
+      frames = all-from-getD _ frames (record { budget = 0; rank = 0 })
+          (λ i l. (ranged (frame-at frames i .budget) gap (w .2 i l), ranged (frame-at frames i .rank) 255 (w .3 i l)))
+    }
 
 pub framed-back : (bs : List ℕ) (k row : ℕ) → Bytes bs → framed-denial bs (8 * k) row ≡ None → Back bs k
 unfolding framed-denial
@@ -206,13 +206,8 @@ framed-back bs k row small e =
     let count : length bytes ≡ 3 * n = length-take-le (3 * n) (drop ((8 * k + 16) / 8) bs) left in
     let none : No-spare bytes =
     λ i l. (let z = ltb-false 0 (field bytes (24 * i + 20) 4) (first-all (λ j. ltb 0 (field bytes (24 * j + 20) 4)) (length bytes / 3) (mapped-none _ _ (d .0)) i l) in omega arith) in
-    let w = clean row (8 * k) (field bs (8 * k) 12) (frames-of bytes) (d .1) in
     record {
-      sound = record {
-        gap = w .0;
-        classes = w .1;
-        frames = all-from-getD _ (frames-of bytes) (record { budget = 0; rank = 0 }) (λ i l. frame-sound bs (8 * k) i l (w .2 i l) (w .3 i l))
-      };
+      sound = fault-sound row (8 * k) (field bs (8 * k) 12) (frames-of bytes) (d .1);
       bytes = row-bytes bs k small long (omega (arith, spare)) count none
     }
 

@@ -10,3 +10,5 @@ pub mod Halves
 pub mod Frameds
 pub mod Trips
 pub mod Verdicts
+pub mod Puts
+pub mod Written

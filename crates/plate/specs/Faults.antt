@@ -45,6 +45,10 @@ bad-classes n = eqb n 0 || ltb 8 n
 abbrev pub bad-rank : List ℕ → ℕ → Bool
 bad-rank ranks i = eqb (getD ranks i 0) 0 || ltb (getD ranks i 0) (getD ranks (i - 1) 0)
 
+-- a frame's rank that is 0, or no byte
+abbrev pub no-rank : ℕ → Bool
+no-rank rank = eqb rank 0 || ltb 255 rank
+
 -- A miss-counted row that stands from bit p on: its gap at p, its budget at p + 12, and class i's rank at p + 32 + 8 · i, i from 0.
 abbrev pub counted-fault : (row p gap budget : ℕ) → List ℕ → Option Denial
 counted-fault row p gap budget ranks =
@@ -59,4 +63,4 @@ framed-fault row p gap frames =
     orOther (when (bad-classes (length frames)) (denied Ranks row (p + 28)))
     (orOther (when (bad-gap gap) (denied Times row p))
     (orOther (mapped (λ i. denied Times row (p + 16 + 24 * i)) (first (λ i. bad-budget gap (frame-at frames i .budget)) (length frames)))
-    (mapped (λ i. denied Ranks row (p + 28 + 24 * i)) (first (λ i. eqb (frame-at frames i .rank) 0) (length frames)))))
+    (mapped (λ i. denied Ranks row (p + 28 + 24 * i)) (first (λ i. no-rank (frame-at frames i .rank)) (length frames)))))

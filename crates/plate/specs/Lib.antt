@@ -4,3 +4,4 @@ pub mod Rows
 pub mod Plans
 pub mod Reading
 pub mod Readers
+pub mod Writing

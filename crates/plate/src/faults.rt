@@ -5,7 +5,7 @@ ghost use Prim.Native.Nat.{ℕ, _+_, _-_, _*_, _/_, _%_, _^_, _<_, _≤_};
 ghost use lib.Dec.{eqb, ltb};
 ghost use lib.ListN.{length, getD};
 ghost use denote.Ref.{now};
-ghost use Rattle.plate.specs.Faults.{first, frame-at, spare-fault, bad-gap, bad-budget, bad-classes, bad-rank, counted-fault, framed-fault};
+ghost use Rattle.plate.specs.Faults.{first, frame-at, spare-fault, bad-gap, bad-budget, bad-classes, bad-rank, no-rank, counted-fault, framed-fault};
 use super::find::first_of;
 use super::find::Items;
 use super::frame::Frame;
@@ -38,6 +38,12 @@ fn bad_classes(n: usize) -> bool
     ensures { λ r. ⌜ r ≡ bad-classes n ⌝ }
 {
     n == 0 || n > 8
+}
+
+fn no_rank(rank: u8) -> bool
+    ensures { λ r. ⌜ r ≡ no-rank rank ⌝ }
+{
+    rank == 0
 }
 
 // The ranks of a miss-counted row: one fails that is 0, or lower than the rank before it.
@@ -83,14 +89,14 @@ struct FrameRanks<'a>(&'a [Frame]);
 
 impl Items for FrameRanks<'_> as ZeroRank {
     ghost count = { λ s. length (now (s .0)) };
-    ghost test = { λ s i. eqb (frame-at (now (s .0)) i .rank) 0 };
+    ghost test = { λ s i. no-rank (frame-at (now (s .0)) i .rank) };
 
     fn count(&self) -> usize {
         self.0.len()
     }
 
     fn passes(&self, i: usize) -> bool {
-        self.0[i].rank == 0
+        no_rank(self.0[i].rank)
     }
 }
 

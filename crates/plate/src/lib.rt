@@ -8,3 +8,5 @@ pub mod reader;
 mod reading;
 pub mod row;
 mod rows;
+pub mod same;
+pub mod writer;
