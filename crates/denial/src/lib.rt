@@ -109,11 +109,8 @@ impl Rule {
             Rule::Short => 1,
             Rule::Spare | Rule::Times | Rule::Ranks => 2,
             Rule::Edition | Rule::RowCounts | Rule::Extra | Rule::Room => 3,
-            Rule::Started
-            | Rule::Scratch
-            | Rule::TaskCount
-            | Rule::SharedRank
-            | Rule::Unbounded => 4,
+            Rule::Started | Rule::Scratch | Rule::TaskCount | Rule::SharedRank | Rule::Unbounded =>
+                4,
             _ => 5,
         }
     }

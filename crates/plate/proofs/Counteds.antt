@@ -37,7 +37,7 @@ fixed bs k =
       gap = field-high bs k;
       budget = rw (p, two) at (field-middle bs (k + 1));
       misses = rw q at (field-within bs (k + 3) 0 3 (omega arith));
-      spare = omega (arith, s)
+      spare = omega (arith, s);
     }
 
 -- the first four of what is left after k bytes
@@ -69,7 +69,7 @@ clean row p gap budget ranks e =
       gap = ranged gap 4095 (when-none _ _ (b .0));
       budget = ranged budget gap (when-none _ _ (c .0));
       classes = ranged (length ranks) 8 (when-none _ _ (a .0));
-      each = first-all (bad-rank ranks) (length ranks) (mapped-none _ _ (c .1))
+      each = first-all (bad-rank ranks) (length ranks) (mapped-none _ _ (c .1));
     }
 
 pub faultless : (row p gap budget : ℕ) (ranks : List ℕ) → Clean gap budget ranks → counted-fault row p gap budget ranks ≡ None
@@ -91,7 +91,7 @@ sound-clean c s = record {
       let here = all-getD (Within 1 255) (c .ranks) i 0 l (s .ranks) in
       or-from (eqb (getD (c .ranks) i 0) 0) (ltb (getD (c .ranks) i 0) (getD (c .ranks) (i - 1) 0))
       (ne-eqb (getD (c .ranks) i 0) 0 (omega arith))
-      (le-ltb (getD (c .ranks) i 0) (getD (c .ranks) (i - 1) 0) (before i l))
+      (le-ltb (getD (c .ranks) i 0) (getD (c .ranks) (i - 1) 0) (before i l));
 }
   where
     before : (i : ℕ) → i < length (c .ranks) → getD (c .ranks) (i - 1) 0 ≤ getD (c .ranks) i 0
@@ -115,7 +115,7 @@ clean-sound c w small = record {
   rise = λ i l.
       let both = or-parts (eqb (getD (c .ranks) (i + 1) 0) 0) (ltb (getD (c .ranks) (i + 1) 0) (getD (c .ranks) (i + 1 - 1) 0)) (w .each (i + 1) l) in
       let e : i + 1 - 1 ≡ i = omega arith in
-      rw e at (ltb-false (getD (c .ranks) (i + 1) 0) (getD (c .ranks) (i + 1 - 1) 0) (both .1))
+      rw e at (ltb-false (getD (c .ranks) (i + 1) 0) (getD (c .ranks) (i + 1 - 1) 0) (both .1));
 }
 
 -- A row that is read, written again.
@@ -162,7 +162,7 @@ counted-back bs k row small e =
     let w = clean row (8 * k) (field bs (8 * k) 12) (field bs (8 * k + 12) 12) (rank-bytes bs (8 * k)) (c .1) in
     record {
       sound = clean-sound (counted-at bs (8 * k)) w (λ i l. rank-small bs (8 * k) i small l);
-      bytes = row-bytes bs k small long (omega (arith, spare))
+      bytes = row-bytes bs k small long (omega (arith, spare));
     }
   where
     rank-small : (bs : List ℕ) (p i : ℕ) → Bytes bs → i < length (rank-bytes bs p) → getD (rank-bytes bs p) i 0 < 256
@@ -213,5 +213,11 @@ counted-forth bs rest k row c s e =
     record {
       fits = rw (gap, budget, ranks, spare, count, none, le-ltb (length bs) (8 * k / 8 + 4) p4, le-ltb (length bs) ((8 * k + 32) / 8 + n) p32);
       same = rw (gap, budget, ranks);
-      count = count
+      count = count;
     }
+
+-- a row of numbers with nothing at fault keeps the rules of its kind
+pub fault-sound : (row p gap budget : ℕ) (ranks : List ℕ) → Bytes ranks → counted-fault row p gap budget ranks ≡ None
+    → Sound-counted (record { gap = gap; budget = budget; ranks = ranks })
+fault-sound row p gap budget ranks small e =
+    clean-sound (record { gap = gap; budget = budget; ranks = ranks }) (clean row p gap budget ranks e) (λ i l. small i)

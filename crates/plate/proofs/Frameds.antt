@@ -104,7 +104,7 @@ fixed bs k =
     record {
       gap = field-high bs k;
       less-one = rw q at (field-within bs (k + 1) 4 3 (omega arith));
-      spare = omega (arith, s)
+      spare = omega (arith, s);
     }
 
 -- What it says of a row of numbers that nothing is at fault in it.
@@ -115,8 +115,7 @@ clean : (row p gap : ℕ) (frames : List Frame) → framed-fault row p gap frame
 clean row p gap frames e =
     let a = or-none _ _ e in
     let b = or-none _ _ (a .1) in
-    let c = or-none _ _ (b .1) in
-    (
+    let c = or-none _ _ (b .1) in (
       ranged gap 4095 (when-none _ _ (b .0)),
       ranged (length frames) 8 (when-none _ _ (a .0)),
       first-all (λ i. bad-budget gap (frame-at frames i .budget)) (length frames) (mapped-none _ _ (c .0)),
@@ -154,8 +153,8 @@ drop-two bs k h =
 part-small : (bs : List ℕ) (j n : ℕ) → Bytes bs → Bytes (take n (drop j bs))
 part-small bs j n small i =
     elim (cases-lt i n) [
-      inl l ↦ rw (getD-take n (drop j bs) i 0 l, getD-drop j bs i 0) (small (j + i))
-    | inr l ↦ rw (getD-past (take n (drop j bs)) i 0 (omega (arith, length-take n (drop j bs)))) (omega arith)
+      | inl l ↦ rw (getD-take n (drop j bs) i 0 l, getD-drop j bs i 0) (small (j + i))
+      | inr l ↦ rw (getD-past (take n (drop j bs)) i 0 (omega (arith, length-take n (drop j bs)))) (omega arith)
     ]
 
 row-bytes : (bs : List ℕ) (k : ℕ) → Bytes bs → k + 2 + 3 * frames-count bs (8 * k) ≤ length bs → field bs (8 * k + 15) 1 ≡ 0
@@ -187,7 +186,7 @@ fault-sound row p gap frames e =
       gap = w .0;
       classes = w .1;
       frames = all-from-getD _ frames (record { budget = 0; rank = 0 })
-          (λ i l. (ranged (frame-at frames i .budget) gap (w .2 i l), ranged (frame-at frames i .rank) 255 (w .3 i l)))
+          (λ i l. (ranged (frame-at frames i .budget) gap (w .2 i l), ranged (frame-at frames i .rank) 255 (w .3 i l)));
     }
 
 pub framed-back : (bs : List ℕ) (k row : ℕ) → Bytes bs → framed-denial bs (8 * k) row ≡ None → Back bs k
@@ -208,7 +207,7 @@ framed-back bs k row small e =
     λ i l. (let z = ltb-false 0 (field bytes (24 * i + 20) 4) (first-all (λ j. ltb 0 (field bytes (24 * j + 20) 4)) (length bytes / 3) (mapped-none _ _ (d .0)) i l) in omega arith) in
     record {
       sound = fault-sound row (8 * k) (field bs (8 * k) 12) (frames-of bytes) (d .1);
-      bytes = row-bytes bs k small long (omega (arith, spare)) count none
+      bytes = row-bytes bs k small long (omega (arith, spare)) count none;
     }
 
 -- A row that is written, read again.
@@ -252,5 +251,5 @@ framed-forth bs rest k row f s e =
     record {
       fits = rw (gap, part, spare, count, frames, clear, none, le-ltb (length bs) (8 * k / 8 + 2) p2, le-ltb (length bs) ((8 * k + 16) / 8 + 3 * n) p16);
       same = rw (gap, part, frames);
-      count = count
+      count = count;
     }

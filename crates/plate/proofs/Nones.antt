@@ -7,7 +7,7 @@ use lib.Dec.{eqb, ltb}
 use mathlib.Core.Logic.{inl, inr}
 use Rattle.std.specs.declared.option.Option.{Option}
 use Rattle.std.specs.declared.option.Option.the-variants.{Some, None}
-use Rattle.std.specs.Options.{orOther, mapped}
+use Rattle.std.specs.Options.{Cases, orOther, mapped}
 use Rattle.std.proofs.shelf.Tests.{cases-order, or-parts, or-from, ltb-false, eqb-false, le-ltb, ne-eqb}
 use Rattle.denial.specs.declared.Denial.{Denial}
 use Rattle.plate.specs.Faults.{when, first}
@@ -32,9 +32,9 @@ first-all f zero e i l = absurd (omega arith)
 first-all f (suc n) e i l =
     let both = or-none (first f n) (cond (f n) (Some n) None) e in
     elim (cases-order i n) [
-      inl q ↦ rw q (last (f n) (both .1))
-    | inr (inl q) ↦ first-all f n (both .0) i q
-    | inr (inr q) ↦ absurd (omega arith)
+      | inl q ↦ rw q (last (f n) (both .1))
+      | inr (inl q) ↦ first-all f n (both .0) i q
+      | inr (inr q) ↦ absurd (omega arith)
     ]
   where
     last : (t : Bool) → cond t (Some n) None ≡ None → t ≡ false
@@ -55,3 +55,8 @@ ranged n high e =
 
 pub in-range : (n high : ℕ) → Within 1 high n → (eqb n 0 || ltb high n) ≡ false
 in-range n high w = or-from (eqb n 0) (ltb high n) (ne-eqb n 0 (omega arith)) (le-ltb high n (w .1))
+
+-- what follows where there is no fault
+pub unless-some : (o : Option Denial) (P : Type 0) → (o ≡ None → P) → Cases o P (λ _. Unit {0})
+unless-some None P h = h refl
+unless-some (Some d) P h = tt

@@ -54,8 +54,8 @@ step-counted bs s t h place l k e m w =
       kept = rw (w, m) (record {
         aligned = omega (arith, k .aligned);
         within = omega (arith, k .within);
-        few = omega (arith, k .few)
-      })
+        few = omega (arith, k .few);
+      });
     }
 
 pub step-framed : (bs : List ℕ) (s t : State) (h : Handed) (place : ℕ) → s .counted ≤ 0 → 0 < s .framed → Kept s
@@ -74,6 +74,6 @@ step-framed bs s t h place none l k e m w =
       kept = rw (w, m) (record {
         aligned = omega (arith, k .aligned);
         within = omega (arith, k .within);
-        few = omega (arith, k .few)
-      })
+        few = omega (arith, k .few);
+      });
     }

@@ -54,14 +54,13 @@ more-framed : (bs : List ℕ) (n k j : ℕ) (plan rest : Plan) (f : Framed)
 more-framed bs n k j plan rest f ec ef none r sound e =
     let empty : plan .counted ≡ [] = ec ∙ none in
     let bytes : framed-bytes f ++ joined framed-bytes (rest .framed) ≡ drop k bs =
-    ap (λ t. framed-bytes f ++ t) (rw none at (r .bytes)) ∙ sym e in
-    (
+    ap (λ t. framed-bytes f ++ t) (rw none at (r .bytes)) ∙ sym e in (
       empty,
       record {
         counts = (rw empty, rw ef (ap suc (r .counts .1)));
         counted = rw empty tt;
         framed = rw ef (sound, r .framed);
-        bytes = rw (empty, ef) bytes
+        bytes = rw (empty, ef) bytes;
       },
     )
 
@@ -78,7 +77,7 @@ more-counted bs m n k j plan rest c ec ef r sound e =
       counts = (rw ec (ap suc (r .counts .0)), rw ef (r .counts .1));
       counted = rw ec (sound, r .counted);
       framed = rw ef (r .framed);
-      bytes = rw (ec, ef) bytes
+      bytes = rw (ec, ef) bytes;
     }
 
 read-framed : (bs : List ℕ) → Bytes bs → (n k row : ℕ) (plan : Plan) → framed-from bs n (8 * k) row ≡ Ok plan
@@ -101,7 +100,7 @@ read-framed bs small (suc n) k row plan e =
 read-counted : (bs : List ℕ) → Bytes bs → (m n k row : ℕ) (plan : Plan) → counted-from bs m n (8 * k) row ≡ Ok plan
     → Read bs m n k plan
 unfolding counted-from
-read-counted bs small zero n k row plan e = 
+read-counted bs small zero n k row plan e =
     let all = read-framed bs small n k row plan e in
     record { counts = (ap length (all .0), all .1 .counts .1); counted = all .1 .counted; framed = all .1 .framed; bytes = all .1 .bytes }
 read-counted bs small (suc m) n k row plan e =
@@ -157,8 +156,7 @@ header-fields bs rest m n hm hn e =
     let b0 : getD bs 0 0 ≡ 16 + m / 4 = ap (λ t. getD t 0 0) e in
     let b1 : getD bs 1 0 ≡ m % 4 * 64 + n = ap (λ t. getD t 1 0) e in
     let small : m / 4 ≤ 4 = omega arith in
-    let q : (m % 4 * 64 + n) / 64 ≡ m % 4 = div-mul-add (m % 4) 64 n (omega arith) in
-    (
+    let q : (m % 4 * 64 + n) / 64 ≡ m % 4 = div-mul-add (m % 4) 64 n (omega arith) in (
       omega (arith, header-edition bs),
       header-counted bs ∙ rw (b0, b1, q) (omega arith),
       header-framed bs ∙ rw b1 (mod-mul-add (m % 4) 64 n (omega arith)),
@@ -175,13 +173,12 @@ counts-fit m n hm hn h = rw (le-ltb 16 m hm, le-ltb 16 n hn, both-zero m n h)
 counts-say : (m n : ℕ) → counts-fault m n ≡ None → (m ≤ 16) × (n ≤ 16) × (1 ≤ m + n)
 counts-say m n e =
     let a = or-none _ _ e in
-    let b = or-parts (ltb 16 m) (eqb m 0 && eqb n 0) (when-none _ _ (a .0)) in
-    (
+    let b = or-parts (ltb 16 m) (eqb m 0 && eqb n 0) (when-none _ _ (a .0)) in (
       ltb-false 16 m (b .0),
       ltb-false 16 n (when-none _ _ (a .1)),
       elim (and-cases (eqb m 0) (eqb n 0) (b .1)) [
-        inl f ↦ (let x = eqb-false m 0 f in omega arith)
-      | inr f ↦ (let x = eqb-false n 0 f in omega arith)
+        | inl f ↦ (let x = eqb-false m 0 f in omega arith)
+        | inr f ↦ (let x = eqb-false n 0 f in omega arith)
       ],
     )
 
@@ -211,14 +208,13 @@ read-is-written bs small plan e =
     let s1 = small 1 in
     let e0 : 16 + field bs 4 6 / 4 ≡ getD bs 0 0 = omega (arith, header-edition bs, header-counted bs) in
     let e1 : field bs 4 6 % 4 * 64 + field bs 10 6 ≡ getD bs 1 0 = omega (arith, header-counted bs, header-framed bs) in
-    let front = Frameds.drop-two bs 0 long in
-    (
+    let front = Frameds.drop-two bs 0 long in (
       record {
         some = rw (r .counts .0, r .counts .1) (few .2);
         few-counted = rw (r .counts .0) (few .0);
         few-framed = rw (r .counts .1) (few .1);
         counted = r .counted;
-        framed = r .framed
+        framed = r .framed;
       },
       rw (r .counts .0, r .counts .1, e0, e1, r .bytes) (sym front),
     )

@@ -18,7 +18,7 @@ use Rattle.plate.proofs.Trips.{read-is-written, written-is-read, few-bytes, re
 refused : (bs : List ℕ) (d : Denial) → decode bs ≡ Err d → Refused bs d
 refused bs d e = record {
   first = e;
-  never = λ plan s w. (let h : decode bs ≡ Ok plan = rw (← w) (written-is-read plan s) in let z : _≡_ {A = ℕ} 0 1 = cc in omega arith)
+  never = λ plan s w. (let h : decode bs ≡ Ok plan = rw (← w) (written-is-read plan s) in let z : _≡_ {A = ℕ} 0 1 = cc in omega arith);
 }
 
 pub header-refused : (bs : List ℕ) (d : Denial) → header-denial bs ≡ Some d → Refused bs d
@@ -53,5 +53,5 @@ rows-accepted bs m n small h e em en =
       sound = back .0;
       encoded = back .1;
       counts = (counts .0 ∙ sym em, counts .1 ∙ sym en);
-      few = subst (λ (x : List ℕ). length x ≤ 610) (back .1) (few-bytes (got .0) (back .0))
+      few = subst (λ (x : List ℕ). length x ≤ 610) (back .1) (few-bytes (got .0) (back .0));
     }

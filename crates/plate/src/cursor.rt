@@ -39,7 +39,8 @@ impl<'a> Cursor<'a> {
             return within_byte(self.plate[at], from, n);
         }
         let low = from + n - 8;
-        within_byte(self.plate[at], from, 8 - from) * (1 << low) + within_byte(self.plate[at + 1], 0, low)
+        within_byte(self.plate[at], from, 8 - from) * (1 << low)
+            + within_byte(self.plate[at + 1], 0, low)
     }
 
     // The refusal of a plate that has no n bytes more.

@@ -6,8 +6,8 @@ ghost use lib.Dec.{eqb, ltb};
 ghost use lib.ListN.{length, getD};
 ghost use denote.Ref.{now};
 ghost use Rattle.plate.specs.Faults.{first, frame-at, spare-fault, bad-gap, bad-budget, bad-classes, bad-rank, no-rank, counted-fault, framed-fault};
-use super::find::first_of;
 use super::find::Items;
+use super::find::first_of;
 use super::frame::Frame;
 use denial::Denial;
 use denial::Rule;
@@ -52,6 +52,7 @@ struct RankBytes<'a>(&'a [u8]);
 
 impl Items for RankBytes<'_> as BadRank {
     ghost count = { λ s. length (now (s .0)) };
+
     ghost test = { λ s. bad-rank (now (s .0)) };
 
     fn count(&self) -> usize {
@@ -72,6 +73,7 @@ struct Budgets<'a> {
 
 impl Items for Budgets<'_> as BadBudget {
     ghost count = { λ s. length (now (s .frames)) };
+
     ghost test = { λ s i. bad-budget (s .gap) (frame-at (now (s .frames)) i .budget) };
 
     fn count(&self) -> usize {
@@ -89,6 +91,7 @@ struct FrameRanks<'a>(&'a [Frame]);
 
 impl Items for FrameRanks<'_> as ZeroRank {
     ghost count = { λ s. length (now (s .0)) };
+
     ghost test = { λ s i. no-rank (frame-at (now (s .0)) i .rank) };
 
     fn count(&self) -> usize {
@@ -101,7 +104,13 @@ impl Items for FrameRanks<'_> as ZeroRank {
 }
 
 // The first fault of a miss-counted row that stands from bit `place` on.
-pub(crate) fn counted_fault(row: u16, place: u16, gap: u16, budget: u16, ranks: &[u8]) -> Option<Denial>
+pub(crate) fn counted_fault(
+    row: u16,
+    place: u16,
+    gap: u16,
+    budget: u16,
+    ranks: &[u8],
+) -> Option<Denial>
     requires { ⌜ place < 2 ^ 15 ⌝ }
     ensures { λ r. ⌜ r ≡ counted-fault row place gap budget (now (ranks .entry)) ⌝ }
 {

@@ -8,6 +8,7 @@ ghost use Rattle.plate.specs.Faults.{first};
 // Items numbered from 0, and a test of them.
 pub(crate) trait Items {
     ghost count: { Self → ℕ };
+
     ghost test: { Self → ℕ → Bool };
 
     fn count(&self) -> usize

@@ -10,8 +10,8 @@ ghost use Rattle.plate.specs.Bits.{field};
 ghost use Rattle.plate.specs.Faults.{frame-at};
 ghost use Rattle.plate.specs.Rows.{frames-of, spare-frame};
 use super::cursor::Cursor;
-use super::find::first_of;
 use super::find::Items;
+use super::find::first_of;
 
 // The budget and the rank of one class.
 #[derive(Clone, Copy, PartialEq, Eq, Debug)]
@@ -46,6 +46,7 @@ struct Spares<'a> {
 
 impl Items for Spares<'_> as BadSpare {
     ghost count = { λ s. length (now (s .bytes)) / 3 };
+
     ghost test = { λ s i. ltb 0 (field (now (s .bytes)) (24 * i + 20) 4) };
 
     fn count(&self) -> usize {

@@ -8,5 +8,6 @@ pub mod reader;
 mod reading;
 pub mod row;
 mod rows;
+pub mod rules;
 pub mod same;
 pub mod writer;

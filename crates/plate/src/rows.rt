@@ -117,7 +117,7 @@ fn framed_head(cursor: &mut Cursor) -> FramedHead
 }
 
 // The first fault of a frame row, from its frame bytes.
-fn frames_fault(row: u16, place: u16, gap: u16, bytes: &[u8]) -> Option<Denial>
+fn unpacked_fault(row: u16, place: u16, gap: u16, bytes: &[u8]) -> Option<Denial>
     requires { ⌜ place < 2 ^ 13 ⌝ ∗ ⌜ length (now bytes) ≤ 24 ⌝ }
     ensures { λ r. ⌜ r ≡ framed-fault row place gap (frames-of (now (bytes .entry))) ⌝ }
 {
@@ -136,7 +136,7 @@ fn framed_content(row: u16, place: u16, head: FramedHead, bytes: &[u8]) -> Optio
     if let Some(i) = first_spare(bytes) {
         return Some(Rule::Spare.denies(row, place + 36 + 24 * i as u16));
     }
-    frames_fault(row, place, head.gap, bytes)
+    unpacked_fault(row, place, head.gap, bytes)
 }
 
 // A frame row: its fixed fields, and three bytes for each frame.

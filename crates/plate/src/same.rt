@@ -8,8 +8,8 @@ ghost use lib.ListN.{length, getD};
 ghost use Rattle.std.specs.Lexical.{Matches};
 ghost use Rattle.std.specs.Orderings.{Decides};
 ghost use Rattle.plate.specs.Faults.{first};
-use super::find::first_of;
 use super::find::Items;
+use super::find::first_of;
 
 // Whether two plates have one length, and one byte at each index.
 fn match_all(a: &[u8], b: &[u8]) -> bool
@@ -31,6 +31,7 @@ struct Pairs<'a, 'b>(&'a [u8], &'b [u8]);
 
 impl Items for Pairs<'_, '_> as Differ {
     ghost count = { λ s. min (length (now (s .0))) (length (now (s .1))) };
+
     ghost test = { λ s i. not (eqb (getD (now (s .0)) i 0) (getD (now (s .1)) i 0)) };
 
     fn count(&self) -> usize {

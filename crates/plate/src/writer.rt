@@ -43,7 +43,10 @@ fn framed_front(gap: u16, count: usize) -> [u8; 2]
     requires { ⌜ gap ≤ 4095 ⌝ ∗ ⌜ 1 ≤ count ⌝ ∗ ⌜ count ≤ 8 ⌝ }
     ensures { λ r. ⌜ r ≡ framed-front gap count ⌝ }
 {
-    [(gap / 16) as u8, (gap % 16 * 16) as u8 + (count as u8 - 1) * 2]
+    [
+        (gap / 16) as u8,
+        (gap % 16 * 16) as u8 + (count as u8 - 1) * 2,
+    ]
 }
 
 // The three bytes of a frame.
@@ -118,7 +121,13 @@ pub fn write_header(out: &mut [u8], counted: u8, framed: u8) -> Result<usize, De
 }
 
 // Writes a miss-counted row from byte `at` on: the byte after it, or its fault as if it stood alone, or 8.
-pub fn write_miss_counted(out: &mut [u8], at: usize, gap: u16, budget: u16, ranks: &[u8]) -> Result<usize, Denial>
+pub fn write_miss_counted(
+    out: &mut [u8],
+    at: usize,
+    gap: u16,
+    budget: u16,
+    ranks: &[u8],
+) -> Result<usize, Denial>
     ensures result { λ r. ⌜ r ≡ unless (orOther (counted-fault 0 0 gap budget (now (ranks .entry)))
         (room-fault (length (now (out .entry))) at (4 + length (now (ranks .entry))))) (at + (4 + length (now (ranks .entry)))) ⌝ }
     ensures out { λ r. ⌜ now (out .exit) ≡ left r (now (out .entry)) at (counted-bytes (record { gap = gap; budget = budget; ranks = now (ranks .entry) })) ⌝ }
@@ -150,6 +159,11 @@ pub fn write_frames(out: &mut [u8], at: usize, gap: u16, frames: &[Frame]) -> Re
         return Err(denial);
     }
     let bytes = pack(frames);
-    put_row(out, at, &framed_front(gap, frames.len()), &bytes[0..3 * frames.len()]);
+    put_row(
+        out,
+        at,
+        &framed_front(gap, frames.len()),
+        &bytes[0..3 * frames.len()],
+    );
     Ok(at + size)
 }

@@ -14,7 +14,7 @@ returns-in-Break-first c =
     let p = err-from-errBy (c .from-residual .result) (c .from-residual .ensures .1) in
     record {
       verdict = rw (p .1, p .2) (header-refused (c .args .plate .now) _ (c .in-Break-first .ensures tt));
-      trips = written-is-read
+      trips = written-is-read;
     }
 
 -- the reader begins right after the header
@@ -39,5 +39,5 @@ returns c =
       verdict =
           rows-accepted bs _ _ (λ i. c .typed .plate i .fits) (first .0) fault
           (ap (λ (s : State). s .counted) (first .2)) (ap (λ (s : State). s .framed) (first .2));
-      trips = written-is-read
+      trips = written-is-read;
     }

@@ -9,7 +9,7 @@ loop-i-holds g c = first-none (g .T·Items .test (c .args .items .now))
 pub returns-then-passes : need.returns-then-passes
 returns-then-passes g c = record {
   within = omega arith;
-  value = first-found (g .T·Items .test (c .args .items .now)) (c .loop-i .i) _ (c .loop-i .inv) (sym (c .if-passes .ensures tt)) (omega arith)
+  value = first-found (g .T·Items .test (c .args .items .now)) (c .loop-i .i) _ (c .loop-i .inv) (sym (c .if-passes .ensures tt)) (omega arith);
 }
 
 pub loop-i-again : need.loop-i-again

@@ -37,8 +37,7 @@ returns c =
     let whole = header-whole bs long (c .typed .plate 0 .fits) (c .typed .plate 1 .fits) in
     let counts = header-counts bs (c .typed .plate 0 .fits) (c .typed .plate 1 .fits) in
     let few = c .in-rest-counts-fault .ensures tt .few in
-    let from = begins bs long in
-    (
+    let from = begins bs long in (
       rw (whole, eq-eqb (getD bs 0 0 / 16) 1 (c .if-first-ne1 .left), ← (c .in-rest-counts-fault .ensures tt .value)),
       refl,
       rw (from, counts .1, counts .2),

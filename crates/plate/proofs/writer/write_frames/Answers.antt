@@ -15,7 +15,7 @@ pack-bytes-requires c κs =
     let sound = fault-sound 0 0 (c .args .gap) (c .args .frames .now) (sym (c .in-rest .ensures tt)) in
     record {
       few = sound .classes .1;
-      fit = λ i l. (let w = all-getD _ (c .args .frames .now) i (record { budget = 0; rank = 0 }) l (sound .frames) in let g = sound .gap in omega arith)
+      fit = λ i l. (let w = all-getD _ (c .args .frames .now) i (record { budget = 0; rank = 0 }) l (sound .frames) in let g = sound .gap in omega arith);
     }
 
 pub returns : need.returns
@@ -26,5 +26,5 @@ returns c =
     record {
       result = search needs;
       out = out;
-      back = framed-put (c .args .out .now) _ (c .args .at) _ (omega arith) (sym (c .in-rest .ensures tt)) out
+      back = framed-put (c .args .out .now) _ (c .args .at) _ (omega arith) (sym (c .in-rest .ensures tt)) out;
     }
