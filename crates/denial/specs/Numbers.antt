@@ -1,5 +1,9 @@
 -- The number and the layer of each rule, and a denial by its parts. Assumes nothing.
-use Prim.Native.Nat.{ℕ}
+use mathlib.Core.List.{List, _++_}
+use mathlib.Core.Path.{_≡_}
+use Prim.Native.Nat.{ℕ, _≤_}
+use lib.Chars.{codes}
+use Rattle.std.specs.Written.{decimal}
 use Rattle.denial.specs.declared.Rule.{Rule}
 use Rattle.denial.specs.declared.Rule.the-variants.{Short, Edition, RowCounts, Spare, Times, Ranks, Extra, Room, Started, Scratch, TaskCount, SharedRank, Unbounded, NotStarted, NoTask, NoClass, Halted, TooSoon, NotHalted, ClockEnd, NothingPending, ListRoom}
 use Rattle.denial.specs.declared.Denial.{Denial}
@@ -29,6 +33,10 @@ number-of ClockEnd = 20
 number-of NothingPending = 21
 number-of ListRoom = 22
 
+-- the numbers go from 1 to 22, and no two rules have the same
+abbrev pub Alone : Rule → ℕ → Type 0
+Alone rule n = (1 ≤ n) × (n ≤ 22) × ((other : Rule) → number-of other ≡ n → other ≡ rule)
+
 -- the layer that a rule belongs to: 1 bits, 2 rows, 3 plate, 4 start, 5 dispatcher
 abbrev pub layer-of : Rule → ℕ
 layer-of Short = 1
@@ -57,3 +65,8 @@ layer-of ListRoom = 5
 -- a denial by a rule, with its two details
 abbrev pub denied : Rule → ℕ → ℕ → Denial
 denied rule first second = record { rule = rule; first = first; second = second }
+
+-- how a denial is printed: the word, the number and the two details
+abbrev pub report : Denial → List ℕ
+report d =
+    codes "refused " ++ (decimal (number-of (d .rule)) ++ (codes " " ++ (decimal (d .first) ++ (codes " " ++ decimal (d .second)))))

@@ -1,6 +1,9 @@
 // Why a call is refused: the rule that was broken, and two details. A denial is handed up unchanged.
 ghost use mathlib.Core.Path.{_≡_};
-ghost use Rattle.denial.specs.Numbers.{number-of, layer-of, denied};
+ghost use Prim.Native.Nat.{_≤_};
+ghost use Rattle.std.specs.declared.option.Option.the-variants.{Some};
+ghost use Rattle.denial.specs.Numbers.{number-of, layer-of, denied, Alone, report};
+use std::fmt;
 
 // One case for each rule, in the order of their numbers. docs/RULES.md says what each means.
 #[derive(Clone, Copy, PartialEq, Eq, Debug)]
@@ -71,9 +74,10 @@ impl Rule {
         }
     }
 
-    // The number under which the rule is reported.
+    // The number under which the rule is reported; no other rule has it.
     pub fn number(self) -> u16
-        ensures { λ r. ⌜ r ≡ number-of self ⌝ }
+        ensures value { λ r. ⌜ r ≡ number-of self ⌝ }
+        ensures alone { λ r. ⌜ Alone self r ⌝ }
     {
         match self {
             Rule::Short => 1,
@@ -127,5 +131,17 @@ impl Denial {
         ensures { λ r. ⌜ r ≡ layer-of (now (self .entry) .rule) ⌝ }
     {
         self.rule.layer()
+    }
+}
+
+// `refused`, the number and the two details.
+pub impl fmt::Display for Denial as DenialDisplay {
+    ghost shown = { λ d. Some (report d) };
+
+    fn fmt<W: fmt::Write>(&self, f: &mut fmt::Formatter<W>) -> fmt::Result {
+        let number = self.number();
+        let first = self.first;
+        let second = self.second;
+        write!(f, "refused {number} {first} {second}")
     }
 }
