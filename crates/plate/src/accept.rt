@@ -5,6 +5,7 @@ ghost use Rattle.std.specs.Results.{Cases};
 ghost use Rattle.plate.specs.Plans.{Accepted, Refused, Written-is-read};
 ghost use Rattle.plate.specs.Reading.{rest-of, fault-of};
 ghost use Rattle.plate.specs.Readers.{state, plate-of};
+use super::reader::Position;
 use super::reader::Reader;
 use super::reading::header;
 use denial::Denial;
@@ -14,6 +15,15 @@ use denial::Denial;
 pub struct Counts {
     pub counted: u8,
     pub framed: u8,
+}
+
+fn counts_of(first: Position) -> Counts
+    ensures { λ r. ⌜ r ≡ record { counted = first .entry .counted; framed = first .entry .framed } ⌝ }
+{
+    Counts {
+        counted: first.counted,
+        framed: first.framed,
+    }
 }
 
 // Reads all the rows to come.
@@ -34,8 +44,5 @@ pub fn accept(plate: &[u8]) -> Result<Counts, Denial>
     let first = header(plate)?;
     let mut reader = Reader { at: first };
     read_on(&mut reader)?;
-    Ok(Counts {
-        counted: first.counted,
-        framed: first.framed,
-    })
+    Ok(counts_of(first))
 }

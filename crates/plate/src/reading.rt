@@ -88,31 +88,17 @@ fn opened<'a>(at: Position<'a>) -> Result<Position<'a>, Denial>
     header(at.cursor.plate)
 }
 
-// After a miss-counted row.
-fn past_counted<'a>(at: Position<'a>, cursor: Cursor<'a>) -> Position<'a>
-    requires { ⌜ 0 < at .counted ⌝ ∗ ⌜ at .row < 32 ⌝ }
+// After a row, with so many of each kind to come.
+fn past<'a>(at: Position<'a>, cursor: Cursor<'a>, counted: u8, framed: u8) -> Position<'a>
+    requires { ⌜ at .row < 32 ⌝ }
     ensures plate { λ r. ⌜ plate-at r ≡ now (cursor .entry .plate) ⌝ }
-    ensures state { λ r. ⌜ state-at r ≡ record { place = cursor .entry .place; row = at .entry .row + 1; counted = at .entry .counted - 1; framed = at .entry .framed } ⌝ }
+    ensures state { λ r. ⌜ state-at r ≡ record { place = cursor .entry .place; row = at .entry .row + 1; counted = counted; framed = framed } ⌝ }
 {
     Position {
         cursor,
         row: at.row + 1,
-        counted: at.counted - 1,
-        framed: at.framed,
-    }
-}
-
-// After a frame row.
-fn past_framed<'a>(at: Position<'a>, cursor: Cursor<'a>) -> Position<'a>
-    requires { ⌜ 0 < at .framed ⌝ ∗ ⌜ at .row < 32 ⌝ }
-    ensures plate { λ r. ⌜ plate-at r ≡ now (cursor .entry .plate) ⌝ }
-    ensures state { λ r. ⌜ state-at r ≡ record { place = cursor .entry .place; row = at .entry .row + 1; counted = at .entry .counted; framed = at .entry .framed - 1 } ⌝ }
-{
-    Position {
-        cursor,
-        row: at.row + 1,
-        counted: at.counted,
-        framed: at.framed - 1,
+        counted,
+        framed,
     }
 }
 
@@ -128,12 +114,12 @@ fn advance<'a>(at: &mut Position<'a>) -> Result<Option<Row<'a>>, Denial>
     let mut cursor = at.cursor;
     if at.counted > 0 {
         let row = counted_row(&mut cursor, at.row)?;
-        *at = past_counted(*at, cursor);
+        *at = past(*at, cursor, at.counted - 1, at.framed);
         return Ok(Some(row));
     }
     if at.framed > 0 {
         let row = framed_row(&mut cursor, at.row)?;
-        *at = past_framed(*at, cursor);
+        *at = past(*at, cursor, at.counted, at.framed - 1);
         return Ok(Some(row));
     }
     if let Some(denial) = extra_fault(cursor) {

@@ -2,6 +2,7 @@ use mathlib.Core.List.{List}
 use Prim.Native.Nat.{ℕ}
 use mathlib.Core.Path.{_≡_, sym, ap, _∙_}
 use Rattle.std.proofs.shelf.Results.{err-from-errBy}
+use Rattle.plate.specs.declared.accept.Counts.{Counts}
 use Rattle.plate.specs.declared.reader.Position.{Position}
 use Rattle.plate.specs.Reading.{State, fault-of, rest-of, first-state}
 use Rattle.plate.specs.Readers.{state-at, plate-at}
@@ -38,6 +39,7 @@ returns c =
     record {
       verdict =
           rows-accepted bs _ _ (λ i. c .typed .plate i .fits) (first .0) fault
-          (ap (λ (s : State). s .counted) (first .2)) (ap (λ (s : State). s .framed) (first .2));
+          (ap (λ (n : Counts). n .counted) (c .counts-of .ensures) ∙ ap (λ (s : State). s .counted) (first .2))
+          (ap (λ (n : Counts). n .framed) (c .counts-of .ensures) ∙ ap (λ (s : State). s .framed) (first .2));
       trips = written-is-read;
     }

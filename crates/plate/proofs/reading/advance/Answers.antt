@@ -8,9 +8,9 @@ pub returns-then-at-gt0 : need.returns-then-at-gt0
 returns-then-at-gt0 c =
     let at = c .args .at .now in
     let row = c .in-Continue-row .ensures tt in
-    let past = c .past-counted .ensures in
+    let past = c .past .ensures in
     let step =
-    step-counted (plate-at at) (state-at at) (state-at (c .past-counted .result)) _ (c .counted-row .last .cursor .place)
+    step-counted (plate-at at) (state-at at) (state-at (c .past .result)) _ (c .counted-row .last .cursor .place)
     (c .if-at-gt0 .taken) (c .pre) (row .result) (row .place refl) (past .state) in
     record { plate = past .plate ∙ row .plate; result = step .result; after = λ _. step .after; kept = λ _. step .kept }
 
@@ -18,8 +18,8 @@ pub returns-then-at-gt0-2 : need.returns-then-at-gt0-2
 returns-then-at-gt0-2 c =
     let at = c .args .at .now in
     let row = c .in-Continue-row-2 .ensures tt in
-    let past = c .past-framed .ensures in
+    let past = c .past-then-at-gt0-2 .ensures in
     let step =
-    step-framed (plate-at at) (state-at at) (state-at (c .past-framed .result)) _ (c .framed-row .last .cursor .place)
+    step-framed (plate-at at) (state-at at) (state-at (c .past-then-at-gt0-2 .result)) _ (c .framed-row .last .cursor .place)
     (omega arith) (omega arith) (c .pre) (row .result) (row .place refl) (past .state) in
     record { plate = past .plate ∙ row .plate; result = step .result; after = λ _. step .after; kept = λ _. step .kept }
