@@ -12,8 +12,8 @@ use Rattle.std.proofs.shelf.Lists.{drop-more, drop-drop, getD-drop, getD-take, 
 use Rattle.std.proofs.shelf.Elements.{all-from-getD, all-getD}
 use Rattle.std.proofs.shelf.Tests.{or-parts, or-from, ltb-false, eqb-false, le-ltb, ne-eqb}
 use Rattle.plate.specs.Bits.{field}
-use Rattle.plate.specs.Faults.{bad-rank, counted-fault}
-use Rattle.plate.specs.Rows.{Counted, ranks-count, rank-bytes, counted-at, counted-denial}
+use Rattle.plate.specs.Faults.{spare-fault, no-rank, bad-rank, counted-fault}
+use Rattle.plate.specs.Rows.{Counted, short-fault, ranks-count, rank-bytes, counted-at, counted-denial}
 use Rattle.plate.specs.Plans.{Within, Bytes, Sound-counted, counted-bytes}
 use Rattle.plate.proofs.Fields.{field-within, field-high, field-middle, field-low}
 use Rattle.plate.proofs.Halves.{high-half, low-half, by-sixteen, by-byte}
@@ -89,8 +89,8 @@ sound-clean c s = record {
   classes = s .classes;
   each = λ i l.
       let here = all-getD (Within 1 255) (c .ranks) i 0 l (s .ranks) in
-      or-from (eqb (getD (c .ranks) i 0) 0) (ltb (getD (c .ranks) i 0) (getD (c .ranks) (i - 1) 0))
-      (ne-eqb (getD (c .ranks) i 0) 0 (omega arith))
+      or-from (no-rank (getD (c .ranks) i 0)) (ltb (getD (c .ranks) i 0) (getD (c .ranks) (i - 1) 0))
+      (in-range (getD (c .ranks) i 0) 255 here)
       (le-ltb (getD (c .ranks) i 0) (getD (c .ranks) (i - 1) 0) (before i l));
 }
   where
@@ -101,22 +101,40 @@ sound-clean c s = record {
         let f : i + 1 ≡ suc i = omega arith in
         rw e (rw f at (s .rise i (omega arith)))
 
-pub clean-sound : (c : Counted) → Clean (c .gap) (c .budget) (c .ranks) → ((i : ℕ) → i < length (c .ranks) → getD (c .ranks) i 0 < 256)
-    → Sound-counted c
-clean-sound c w small = record {
+pub clean-sound : (c : Counted) → Clean (c .gap) (c .budget) (c .ranks) → Sound-counted c
+clean-sound c w = record {
   gap = w .gap;
   budget = w .budget;
   classes = w .classes;
-  ranks = all-from-getD (Within 1 255) (c .ranks) 0 (λ i l.
-      let both = or-parts (eqb (getD (c .ranks) i 0) 0) _ (w .each i l) in
-      let a = eqb-false (getD (c .ranks) i 0) 0 (both .0) in
-      let b = small i l in
-      (omega arith, omega arith));
+  ranks = all-from-getD (Within 1 255) (c .ranks) 0
+      (λ i l. ranged (getD (c .ranks) i 0) 255 (or-parts (no-rank (getD (c .ranks) i 0)) _ (w .each i l) .0));
   rise = λ i l.
-      let both = or-parts (eqb (getD (c .ranks) (i + 1) 0) 0) (ltb (getD (c .ranks) (i + 1) 0) (getD (c .ranks) (i + 1 - 1) 0)) (w .each (i + 1) l) in
+      let both = or-parts (no-rank (getD (c .ranks) (i + 1) 0)) (ltb (getD (c .ranks) (i + 1) 0) (getD (c .ranks) (i + 1 - 1) 0)) (w .each (i + 1) l) in
       let e : i + 1 - 1 ≡ i = omega arith in
       rw e at (ltb-false (getD (c .ranks) (i + 1) 0) (getD (c .ranks) (i + 1 - 1) 0) (both .1));
 }
+
+-- a row of numbers with nothing at fault keeps the rules of its kind
+pub fault-sound : (row p gap budget : ℕ) (ranks : List ℕ) → counted-fault row p gap budget ranks ≡ None
+    → Sound-counted (record { gap = gap; budget = budget; ranks = ranks })
+fault-sound row p gap budget ranks e = clean-sound (record { gap = gap; budget = budget; ranks = ranks }) (clean row p gap budget ranks e)
+
+-- what it says that nothing is at fault in a row that is read
+parts : (bs : List ℕ) (p row : ℕ) → counted-denial bs p row ≡ None
+    → ((p + 32) / 8 + ranks-count bs p ≤ length bs) × (field bs (p + 27) 5 ≡ 0)
+    × (counted-fault row p (field bs p 12) (field bs (p + 12) 12) (rank-bytes bs p) ≡ None)
+unfolding counted-denial
+parts bs p row e =
+    let a = or-none (short-fault bs row (p / 8 + 4)) _ e in
+    let b = or-none (short-fault bs row ((p + 32) / 8 + ranks-count bs p)) _ (a .1) in
+    let c = or-none (spare-fault row (p + 27) (field bs (p + 27) 5)) _ (b .1) in (
+      ltb-false (length bs) ((p + 32) / 8 + ranks-count bs p) (when-none _ _ (b .0)),
+      (let z = ltb-false 0 (field bs (p + 27) 5) (when-none _ _ (c .0)) in omega (arith, z)),
+      c .1,
+    )
+
+pub denial-sound : (bs : List ℕ) (p row : ℕ) → counted-denial bs p row ≡ None → Sound-counted (counted-at bs p)
+denial-sound bs p row e = fault-sound row p (field bs p 12) (field bs (p + 12) 12) (rank-bytes bs p) (parts bs p row e .2)
 
 -- A row that is read, written again.
 pub record Back (bs : List ℕ) (k : ℕ) : Type 0 where
@@ -150,27 +168,10 @@ row-bytes bs k small long spare =
     drop-four bs k (omega arith) ∙ rw (e0, e1, e2, e3, e4)
 
 pub counted-back : (bs : List ℕ) (k row : ℕ) → Bytes bs → counted-denial bs (8 * k) row ≡ None → Back bs k
-unfolding counted-denial
 counted-back bs k row small e =
-    let a = or-none _ _ e in
-    let b = or-none _ _ (a .1) in
-    let c = or-none _ _ (b .1) in
-    let n : ℕ = ranks-count bs (8 * k) in
-    let longer = ltb-false (length bs) ((8 * k + 32) / 8 + n) (when-none _ _ (b .0)) in
-    let long : k + 4 + n ≤ length bs = omega (arith, longer) in
-    let spare = ltb-false 0 (field bs (8 * k + 27) 5) (when-none _ _ (c .0)) in
-    let w = clean row (8 * k) (field bs (8 * k) 12) (field bs (8 * k + 12) 12) (rank-bytes bs (8 * k)) (c .1) in
-    record {
-      sound = clean-sound (counted-at bs (8 * k)) w (λ i l. rank-small bs (8 * k) i small l);
-      bytes = row-bytes bs k small long (omega (arith, spare));
-    }
-  where
-    rank-small : (bs : List ℕ) (p i : ℕ) → Bytes bs → i < length (rank-bytes bs p) → getD (rank-bytes bs p) i 0 < 256
-    rank-small bs p i small l =
-        let n : ℕ = ranks-count bs p in
-        let ds : List ℕ = drop ((p + 32) / 8) bs in
-        let below : i < n = omega (arith, length-take n ds) in
-        rw (getD-take n ds i 0 below, getD-drop ((p + 32) / 8) bs i 0) (small ((p + 32) / 8 + i))
+    let w = parts bs (8 * k) row e in
+    let long : k + 4 + ranks-count bs (8 * k) ≤ length bs = omega (arith, w .0) in
+    record { sound = denial-sound bs (8 * k) row e; bytes = row-bytes bs k small long (w .1) }
 
 -- A row that is written, read again.
 pub record Forth (bs : List ℕ) (k row : ℕ) (c : Counted) : Type 0 where
@@ -215,9 +216,3 @@ counted-forth bs rest k row c s e =
       same = rw (gap, budget, ranks);
       count = count;
     }
-
--- a row of numbers with nothing at fault keeps the rules of its kind
-pub fault-sound : (row p gap budget : ℕ) (ranks : List ℕ) → Bytes ranks → counted-fault row p gap budget ranks ≡ None
-    → Sound-counted (record { gap = gap; budget = budget; ranks = ranks })
-fault-sound row p gap budget ranks small e =
-    clean-sound (record { gap = gap; budget = budget; ranks = ranks }) (clean row p gap budget ranks e) (λ i l. small i)

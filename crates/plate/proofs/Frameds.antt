@@ -1,5 +1,5 @@
 -- Frame rows: what is read is written, and what is written is read.
-use mathlib.Core.Bool.{true, false}
+use mathlib.Core.Bool.{Bool, true, false}
 use mathlib.Core.List.{List, [], _∷_, _++_}
 use mathlib.Core.Path.{_≡_, refl, sym, ap, _∙_}
 use Prim.Native.Nat.{ℕ, zero, suc, _+_, _*_, _/_, _%_, _-_, _<_, _≤_}
@@ -12,10 +12,14 @@ use Rattle.std.proofs.shelf.Lists.{drop-more, drop-drop, getD-drop, getD-take, 
 use Rattle.std.proofs.shelf.Elements.{all-from-getD, all-getD, all-weaker}
 use mathlib.Core.Logic.{inl, inr}
 use Rattle.std.proofs.shelf.Tests.{cases-lt, ltb-false, eqb-false, le-ltb, ne-eqb}
+use Rattle.std.specs.Options.{mapped}
+use Rattle.denial.specs.declared.Rule.the-variants.{Spare}
+use Rattle.denial.specs.declared.Denial.{Denial}
+use Rattle.denial.specs.Numbers.{denied}
 use Rattle.plate.specs.declared.frame.Frame.{Frame}
 use Rattle.plate.specs.Bits.{field}
-use Rattle.plate.specs.Faults.{frame-at, bad-budget, no-rank, framed-fault}
-use Rattle.plate.specs.Rows.{Framed, frame-of, frames-of, frames-count, frame-bytes, framed-at, framed-denial}
+use Rattle.plate.specs.Faults.{spare-fault, frame-at, bad-budget, no-rank, framed-fault}
+use Rattle.plate.specs.Rows.{Framed, short-fault, spare-frame, frame-of, frames-of, frames-count, frame-bytes, framed-at, framed-denial}
 use Rattle.plate.specs.Plans.{Within, Bytes, Sound-framed, bytes-of-frame, framed-bytes}
 use Rattle.plate.proofs.Fields.{field-within, field-high, field-byte, field-drop, field-low}
 use Rattle.plate.proofs.Frames.{frames-length, frames-at}
@@ -189,26 +193,37 @@ fault-sound row p gap frames e =
           (λ i l. (ranged (frame-at frames i .budget) gap (w .2 i l), ranged (frame-at frames i .rank) 255 (w .3 i l)));
     }
 
-pub framed-back : (bs : List ℕ) (k row : ℕ) → Bytes bs → framed-denial bs (8 * k) row ≡ None → Back bs k
+-- what it says that nothing is at fault in a row that is read
+parts : (bs : List ℕ) (p row : ℕ) → framed-denial bs p row ≡ None
+    → ((p + 16) / 8 + 3 * frames-count bs p ≤ length bs) × (field bs (p + 15) 1 ≡ 0) × No-spare (frame-bytes bs p)
+    × (framed-fault row p (field bs p 12) (frames-of (frame-bytes bs p)) ≡ None)
 unfolding framed-denial
+parts bs p row e =
+    let bytes : List ℕ = frame-bytes bs p in
+    let test : ℕ → Bool = λ i. ltb 0 (field bytes (24 * i + 20) 4) in
+    let where-at : ℕ → Denial = λ i. denied Spare row (p + 36 + 24 * i) in
+    let a = or-none (short-fault bs row (p / 8 + 2)) _ e in
+    let b = or-none (short-fault bs row ((p + 16) / 8 + 3 * frames-count bs p)) _ (a .1) in
+    let c = or-none (spare-fault row (p + 15) (field bs (p + 15) 1)) _ (b .1) in
+    let d = or-none (mapped where-at (spare-frame bytes (length bytes / 3))) _ (c .1) in
+    let none = first-all test (length bytes / 3) (mapped-none where-at (spare-frame bytes (length bytes / 3)) (d .0)) in (
+      ltb-false (length bs) ((p + 16) / 8 + 3 * frames-count bs p) (when-none _ _ (b .0)),
+      (let z = ltb-false 0 (field bs (p + 15) 1) (when-none _ _ (c .0)) in omega (arith, z)),
+      (λ i l. (let z = ltb-false 0 (field bytes (24 * i + 20) 4) (none i l) in omega (arith, z))),
+      d .1,
+    )
+
+pub denial-sound : (bs : List ℕ) (p row : ℕ) → framed-denial bs p row ≡ None → Sound-framed (framed-at bs p)
+denial-sound bs p row e = fault-sound row p (field bs p 12) (frames-of (frame-bytes bs p)) (parts bs p row e .3)
+
+pub framed-back : (bs : List ℕ) (k row : ℕ) → Bytes bs → framed-denial bs (8 * k) row ≡ None → Back bs k
 framed-back bs k row small e =
-    let a = or-none _ _ e in
-    let b = or-none _ _ (a .1) in
-    let c = or-none _ _ (b .1) in
-    let d = or-none _ _ (c .1) in
+    let w = parts bs (8 * k) row e in
     let n : ℕ = frames-count bs (8 * k) in
-    let bytes : List ℕ = frame-bytes bs (8 * k) in
-    let longer = ltb-false (length bs) ((8 * k + 16) / 8 + 3 * n) (when-none _ _ (b .0)) in
-    let long : k + 2 + 3 * n ≤ length bs = omega (arith, longer) in
-    let spare = ltb-false 0 (field bs (8 * k + 15) 1) (when-none _ _ (c .0)) in
+    let long : k + 2 + 3 * n ≤ length bs = omega (arith, w .0) in
     let left : 3 * n ≤ length (drop ((8 * k + 16) / 8) bs) = rw (length-drop ((8 * k + 16) / 8) bs) (omega arith) in
-    let count : length bytes ≡ 3 * n = length-take-le (3 * n) (drop ((8 * k + 16) / 8) bs) left in
-    let none : No-spare bytes =
-    λ i l. (let z = ltb-false 0 (field bytes (24 * i + 20) 4) (first-all (λ j. ltb 0 (field bytes (24 * j + 20) 4)) (length bytes / 3) (mapped-none _ _ (d .0)) i l) in omega arith) in
-    record {
-      sound = fault-sound row (8 * k) (field bs (8 * k) 12) (frames-of bytes) (d .1);
-      bytes = row-bytes bs k small long (omega (arith, spare)) count none;
-    }
+    let count = length-take-le (3 * n) (drop ((8 * k + 16) / 8) bs) left in
+    record { sound = denial-sound bs (8 * k) row e; bytes = row-bytes bs k small long (w .1) count (w .2) }
 
 -- A row that is written, read again.
 pub record Forth (bs : List ℕ) (k row : ℕ) (f : Framed) : Type 0 where

@@ -1,7 +1,7 @@
 -- One step of a reader, past the header.
 use mathlib.Core.Bool.{true, false, cond}
 use mathlib.Core.List.{List}
-use mathlib.Core.Path.{_≡_, refl, sym, ap, _∙_}
+use mathlib.Core.Path.{_≡_, refl, sym, ap, subst, _∙_}
 use Prim.Native.Nat.{ℕ, _+_, _-_, _*_, _%_, _<_, _≤_}
 use native.Mathlib.Omega.{arith}
 use lib.Dec.{ltb}
@@ -9,13 +9,17 @@ use Rattle.std.specs.declared.option.Option.{Option}
 use Rattle.std.specs.declared.option.Option.the-variants.{Some, None}
 use Rattle.std.specs.declared.result.Result.{Result}
 use Rattle.std.specs.declared.result.Result.the-variants.{Ok, Err}
-use Rattle.std.proofs.shelf.Tests.{lt-ltb, le-ltb, cond-both}
+use Rattle.std.proofs.shelf.Tests.{lt-ltb, le-ltb, cond-both, cases-lt}
 use Rattle.denial.specs.declared.Denial.{Denial}
 use Rattle.plate.specs.Bits.{field}
 use Rattle.plate.specs.Rows.{counted-bits, counted-denial, framed-bits, framed-denial}
-use Rattle.plate.specs.Plans.{unless}
-use Rattle.plate.specs.Reading.{State, Kept, Handed, counted-here, framed-here, row-denial, next-row, after-row}
+use Rattle.plate.specs.Plans.{unless, extra-fault}
+use Rattle.plate.specs.Reading.{State, Kept, Handed, counted-here, framed-here, row-denial, next-row, after-row, open-denial, opened, next-denial, Sound-row, Sound-next}
+use mathlib.Core.Logic.{inl, inr}
 use Rattle.plate.proofs.Fields.{field-low}
+use Rattle.plate.proofs.Nones.{or-none}
+use Rattle.plate.proofs.Counteds
+use Rattle.plate.proofs.Frameds
 
 -- a value came, so there was no fault
 pub unless-ok : {A : Type 0} (o : Option Denial) (x h : A) → Ok h ≡ unless o x → (o ≡ None) × (h ≡ x)
@@ -77,3 +81,34 @@ step-framed bs s t h place none l k e m w =
         few = omega (arith, k .few);
       });
     }
+
+-- a row that is handed out keeps the rules of its kind
+sound-step : (bs : List ℕ) (s : State) (h : Handed) → row-denial bs s ≡ None → next-row bs s ≡ Some h → Sound-row h
+sound-step bs s h e f =
+    elim (cases-lt 0 (s .counted)) [
+      | inl l ↦ (let t = lt-ltb 0 (s .counted) l in at-counted (rw t at e) (rw t at f))
+      | inr l ↦ (let t = le-ltb 0 (s .counted) l in later (rw t at e) (rw t at f))
+    ]
+  where
+    at-counted : counted-denial bs (s .place) (s .row) ≡ None → Some (counted-here bs (s .place)) ≡ Some h → Sound-row h
+    at-counted d g = let same : counted-here bs (s .place) ≡ h = cc in subst Sound-row same (Counteds.denial-sound bs (s .place) (s .row) d)
+
+    at-framed : framed-denial bs (s .place) (s .row) ≡ None → Some (framed-here bs (s .place)) ≡ Some h → Sound-row h
+    at-framed d g = let same : framed-here bs (s .place) ≡ h = cc in subst Sound-row same (Frameds.denial-sound bs (s .place) (s .row) d)
+
+    later : cond (ltb 0 (s .framed)) (framed-denial bs (s .place) (s .row)) (extra-fault bs (s .place)) ≡ None
+        → cond (ltb 0 (s .framed)) (Some (framed-here bs (s .place))) None ≡ Some h → Sound-row h
+    later d g =
+        elim (cases-lt 0 (s .framed)) [
+          | inl l ↦ (let t = lt-ltb 0 (s .framed) l in at-framed (rw t at d) (rw t at g))
+          | inr l ↦ (let t = le-ltb 0 (s .framed) l in let n : None ≡ Some h = rw t at g in let z : _≡_ {A = ℕ} 0 1 = cc in absurd (omega arith))
+        ]
+
+pub sound-next : (bs : List ℕ) (s : State) (r : Result (Option Handed) Denial)
+    → r ≡ unless (next-denial bs s) (next-row bs (opened bs s)) → Sound-next r
+sound-next bs s (Err d) e = tt
+sound-next bs s (Ok None) e = tt
+sound-next bs s (Ok (Some h)) e =
+    let got = unless-ok (next-denial bs s) (next-row bs (opened bs s)) (Some h) e in
+    let parts = or-none (open-denial bs s) (row-denial bs (opened bs s)) (got .0) in
+    sound-step bs (opened bs s) h (parts .1) (sym (got .1))

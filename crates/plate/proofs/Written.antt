@@ -8,7 +8,7 @@ use Rattle.std.proofs.shelf.Lists.{drop-at, length-take-le}
 use Rattle.plate.specs.declared.frame.Frame.{Frame}
 use Rattle.plate.specs.Faults.{counted-fault, framed-fault}
 use Rattle.plate.specs.Rows.{Counted, Framed}
-use Rattle.plate.specs.Plans.{Bytes, Sound-counted, Sound-framed, counted-bytes, framed-bytes}
+use Rattle.plate.specs.Plans.{Sound-counted, Sound-framed, counted-bytes, framed-bytes}
 use Rattle.plate.specs.Writing.{put-at, Reads-counted, Reads-framed}
 use Rattle.plate.proofs.Counteds
 use Rattle.plate.proofs.Frameds
@@ -17,9 +17,9 @@ drop-put : (bs new : List ℕ) (i : ℕ) → i ≤ length bs → drop i (put-at 
 drop-put bs new i h = drop-at (take i bs) (new ++ drop (i + length new) bs) i (length-take-le i bs h)
 
 pub counted-put : (bs out : List ℕ) (at : ℕ) (c : Counted) → at ≤ length bs → counted-fault 0 0 (c .gap) (c .budget) (c .ranks) ≡ None
-    → Bytes (c .ranks) → out ≡ put-at bs at (counted-bytes c) → Reads-counted out at c
-counted-put bs out at c h none small e row =
-    let sound = Counteds.clean-sound c (Counteds.clean 0 0 (c .gap) (c .budget) (c .ranks) none) (λ i l. small i) in
+    → out ≡ put-at bs at (counted-bytes c) → Reads-counted out at c
+counted-put bs out at c h none e row =
+    let sound = Counteds.clean-sound c (Counteds.clean 0 0 (c .gap) (c .budget) (c .ranks) none) in
     let forth = Counteds.counted-forth out _ at row c sound (ap (drop at) e ∙ drop-put bs (counted-bytes c) at h) in
     (forth .fits, forth .same)
 

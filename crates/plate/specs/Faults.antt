@@ -41,13 +41,13 @@ bad-budget gap budget = eqb budget 0 || ltb gap budget
 abbrev pub bad-classes : ℕ → Bool
 bad-classes n = eqb n 0 || ltb 8 n
 
--- a rank that is 0, or lower than the rank before it
-abbrev pub bad-rank : List ℕ → ℕ → Bool
-bad-rank ranks i = eqb (getD ranks i 0) 0 || ltb (getD ranks i 0) (getD ranks (i - 1) 0)
-
--- a frame's rank that is 0, or no byte
+-- a rank that is 0, or no byte
 abbrev pub no-rank : ℕ → Bool
 no-rank rank = eqb rank 0 || ltb 255 rank
+
+-- a rank that is none, or lower than the rank before it
+abbrev pub bad-rank : List ℕ → ℕ → Bool
+bad-rank ranks i = no-rank (getD ranks i 0) || ltb (getD ranks i 0) (getD ranks (i - 1) 0)
 
 -- A miss-counted row that stands from bit p on: its gap at p, its budget at p + 12, and class i's rank at p + 32 + 8 · i, i from 0.
 abbrev pub counted-fault : (row p gap budget : ℕ) → List ℕ → Option Denial

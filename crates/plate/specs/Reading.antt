@@ -14,8 +14,8 @@ use Rattle.denial.specs.declared.Denial.{Denial}
 use Rattle.plate.specs.declared.row.Row.{Row}
 use Rattle.plate.specs.declared.row.Row.the-variants.{MissCounted, Frames}
 use Rattle.plate.specs.Bits.{field}
-use Rattle.plate.specs.Rows.{rank-bytes, counted-denial, counted-bits, frame-bytes, framed-denial, framed-bits}
-use Rattle.plate.specs.Plans.{Plan, header-denial, extra-fault, counted-from}
+use Rattle.plate.specs.Rows.{frames-of, rank-bytes, counted-denial, counted-bits, frame-bytes, framed-denial, framed-bits}
+use Rattle.plate.specs.Plans.{Plan, Sound-counted, Sound-framed, header-denial, extra-fault, counted-from}
 
 -- a row as it is handed out: its numbers, its rank or frame bytes, and their bit place
 pub data Handed : Type 0 where
@@ -95,3 +95,13 @@ rest-of bs s = counted-from bs (s .counted) (s .framed) (s .place) (s .row)
 abbrev pub fault-of : {A : Type 0} → Result A Denial → Option Denial
 fault-of (Ok x) = None
 fault-of (Err d) = Some d
+
+-- a row that is handed out keeps the rules of its kind
+abbrev pub Sound-row : Handed → Type 0
+Sound-row (counted gap budget ranks place) = Sound-counted (record { gap = gap; budget = budget; ranks = ranks })
+Sound-row (framed gap bytes place) = Sound-framed (record { gap = gap; frames = frames-of bytes })
+
+abbrev pub Sound-next : Result (Option Handed) Denial → Type 0
+Sound-next (Ok None) = Unit {0}
+Sound-next (Ok (Some row)) = Sound-row row
+Sound-next (Err d) = Unit {0}

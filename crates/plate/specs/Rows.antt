@@ -1,8 +1,8 @@
 -- The rows of a plate: what each says, where its fields stand, and its first fault as it is read. Assumes nothing.
-use mathlib.Core.List.{List, [], _∷_}
+use mathlib.Core.List.{List, [], _∷_, _++_}
 use Prim.Native.Nat.{ℕ, _+_, _*_, _/_}
 use lib.Dec.{ltb}
-use lib.ListN.{length, take, drop}
+use lib.ListN.{length, take, drop, replicate}
 use Rattle.std.specs.declared.option.Option.{Option}
 use Rattle.std.specs.Options.{orOther, mapped}
 use Rattle.denial.specs.declared.Denial.{Denial}
@@ -61,6 +61,10 @@ frames-of [] = []
 frames-of (a ∷ []) = []
 frames-of (a ∷ (b ∷ [])) = []
 frames-of (a ∷ (b ∷ (c ∷ bs))) = frame-of (a ∷ (b ∷ (c ∷ bs))) ∷ frames-of bs
+
+-- the first eight of them, and zeros past the last
+abbrev pub padded : List Frame → List Frame
+padded frames = take 8 (frames ++ replicate 8 (record { budget = 0; rank = 0 }))
 
 -- Of a frame row from bit p on: the number of its frames, its frame bytes, how many bits it takes, and what it says.
 abbrev pub frames-count : List ℕ → ℕ → ℕ

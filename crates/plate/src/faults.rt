@@ -60,7 +60,7 @@ impl Items for RankBytes<'_> as BadRank {
     }
 
     fn passes(&self, i: usize) -> bool {
-        self.0[i] == 0 || self.0[i] < self.0[i.saturating_sub(1)]
+        no_rank(self.0[i]) || self.0[i] < self.0[i.saturating_sub(1)]
     }
 }
 

@@ -8,7 +8,7 @@ ghost use Rattle.std.specs.Options.{Cases as BySome};
 ghost use Rattle.std.specs.Slices.{found};
 ghost use Rattle.plate.specs.Bits.{field};
 ghost use Rattle.plate.specs.Faults.{frame-at};
-ghost use Rattle.plate.specs.Rows.{frames-of, spare-frame};
+ghost use Rattle.plate.specs.Rows.{frames-of, padded, spare-frame};
 use super::cursor::Cursor;
 use super::find::Items;
 use super::find::first_of;
@@ -71,13 +71,12 @@ pub(crate) fn first_spare(bytes: &[u8]) -> Option<usize>
     first_of(&Spares { bytes })
 }
 
-// The frames of frame bytes, in front of an array of eight.
-pub(crate) fn unpack(bytes: &[u8]) -> [Frame; 8]
-    requires { ⌜ length (now bytes) ≤ 24 ⌝ }
-    ensures { λ r. ⌜ take (length (now (bytes .entry)) / 3) r ≡ frames-of (now (bytes .entry)) ⌝ }
+// The first eight frames of frame bytes, and frames of zeros past the last.
+pub fn unpack(bytes: &[u8]) -> [Frame; 8]
+    ensures { λ r. ⌜ r ≡ padded (frames-of (now (bytes .entry))) ⌝ }
 {
     let mut frames = [Frame { budget: 0, rank: 0 }; 8];
-    for i in 0..bytes.len() / 3 {
+    for i in 0..(bytes.len() / 3).min(8) {
         frames[i] = unpack_one(bytes, i);
     }
     frames

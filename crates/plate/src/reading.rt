@@ -8,7 +8,7 @@ ghost use Rattle.std.specs.Results.{Cases, isOk};
 ghost use Rattle.std.specs.declared.option.Option.the-variants.{Some, None};
 ghost use Rattle.plate.specs.Bits.{field};
 ghost use Rattle.plate.specs.Plans.{unless, counts-fault, extra-fault, header-denial};
-ghost use Rattle.plate.specs.Reading.{Kept, first-state, told-next, open-denial, opened, row-denial, next-row, after-row, next-denial};
+ghost use Rattle.plate.specs.Reading.{Kept, first-state, told-next, open-denial, opened, row-denial, next-row, after-row, next-denial, Sound-next};
 ghost use Rattle.plate.specs.Readers.{state, state-at, plate-of, plate-at};
 use super::cursor::Cursor;
 use super::reader::Position;
@@ -153,6 +153,7 @@ impl<'a> Reader<'a> {
         ensures after { λ r. ⌜ state (now (self .exit)) ≡ cond (isOk r)
             (after-row (plate-of (now (self .entry))) (opened (plate-of (now (self .entry))) (state (now (self .entry)))))
             (state (now (self .entry))) ⌝ }
+        ensures sound { λ r. ⌜ Sound-next (told-next r) ⌝ }
     {
         let mut at = opened(self.at)?;
         let row = advance(&mut at)?;

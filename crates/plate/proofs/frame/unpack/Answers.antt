@@ -1,10 +1,9 @@
-use mathlib.Core.Path.{_≡_, sym, ap, _∙_}
-use Prim.Native.Nat.{_+_, _/_, _<_}
+use mathlib.Core.Path.{_≡_, sym, _∙_}
+use Prim.Native.Nat.{min}
 use native.Mathlib.Omega.{arith}
-use lib.ListN.{length, take}
-use Rattle.std.proofs.shelf.Lists.{length-set, take-more, take-more-set, take-all}
+use lib.ListN.{length}
 use Rattle.plate.specs.Rows.{frames-of}
-use Rattle.plate.proofs.Frames.{frames-length, frames-at}
+use Rattle.plate.proofs.Frames.{frames-length, frames-at, padded-more, padded-all}
 use Rattle.plate.proofs.frame.unpack.Needs as need
 
 pub loop-i-again : need.loop-i-again
@@ -13,15 +12,12 @@ loop-i-again c =
     let i = c .loop-i .i in
     let x = c .unpack-one .result in
     let n = frames-length bs in
-    let more = take-more (frames-of bs) i x (omega arith) in
     let here = frames-at bs i x (omega arith) in
-    let put = take-more-set (c .loop-i .frames) i x (omega arith) in
-    (length-set (c .loop-i .frames) i x ∙ c .loop-i .inv .0, cc)
+    padded-more (frames-of bs) (c .loop-i .frames) i x _ (omega arith) (omega arith) (here ∙ sym (c .unpack-one .ensures)) (c .loop-i .inv)
 
 pub returns : need.returns
 returns c =
     let bs = c .args .bytes .now in
     let n = frames-length bs in
-    let e : c .loop-i .i ≡ length bs / 3 = omega arith in
-    let all = take-all (c .loop-i .i) (frames-of bs) (omega arith) in
-    rw (← e) (c .loop-i .inv .1 ∙ all)
+    let e : c .loop-i .i ≡ min (length (frames-of bs)) 8 = omega arith in
+    c .loop-i .inv ∙ padded-all (frames-of bs) (c .loop-i .i) _ e

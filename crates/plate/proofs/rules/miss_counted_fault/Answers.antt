@@ -8,5 +8,5 @@ returns c = record {
   value = c .counted-fault .ensures;
   sound =
       unless-some (c .counted-fault .result) _
-      (λ e. fault-sound 0 0 (c .args .gap) (c .args .budget) (c .args .ranks .now) (λ i. c .typed .ranks i .fits) (sym (c .counted-fault .ensures) ∙ e));
+      (λ e. fault-sound 0 0 (c .args .gap) (c .args .budget) (c .args .ranks .now) (sym (c .counted-fault .ensures) ∙ e));
 }

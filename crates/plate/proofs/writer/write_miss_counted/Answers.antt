@@ -14,5 +14,5 @@ returns c =
     record {
       result = search needs;
       out = out;
-      back = counted-put (c .args .out .now) _ (c .args .at) _ (omega arith) (sym (c .in-rest .ensures tt)) (λ i. c .typed .ranks i .fits) out;
+      back = counted-put (c .args .out .now) _ (c .args .at) _ (omega arith) (sym (c .in-rest .ensures tt)) out;
     }
