@@ -59,6 +59,7 @@ step-counted bs s t h place l k e m w =
         aligned = omega (arith, k .aligned);
         within = omega (arith, k .within);
         few = omega (arith, k .few);
+        counts = (omega (arith, k .counts), omega (arith, k .counts));
       });
     }
 
@@ -79,6 +80,7 @@ step-framed bs s t h place none l k e m w =
         aligned = omega (arith, k .aligned);
         within = omega (arith, k .within);
         few = omega (arith, k .few);
+        counts = (omega (arith, k .counts), omega (arith, k .counts));
       });
     }
 

@@ -1,7 +1,7 @@
 -- From what was read of a plate to what it decodes to.
 use mathlib.Core.List.{List}
 use mathlib.Core.Path.{_≡_, refl, sym, ap, subst, _∙_}
-use Prim.Native.Nat.{ℕ, _≤_}
+use Prim.Native.Nat.{ℕ, _≤_, _<_}
 use native.Mathlib.Omega.{arith}
 use lib.ListN.{length}
 use Rattle.std.specs.declared.option.Option.{Option}
@@ -11,7 +11,11 @@ use Rattle.std.specs.declared.result.Result.the-variants.{Ok, Err}
 use Rattle.denial.specs.declared.Denial.{Denial}
 use Rattle.plate.specs.Bits.{field}
 use Rattle.plate.specs.Plans.{Plan, Bytes, Accepted, Refused, header-denial, decode, encode}
-use Rattle.plate.specs.Reading.{fault-of, rest-of, first-state}
+use Rattle.plate.specs.declared.reader.Counts.{Counts}
+use Rattle.plate.specs.Plans.{unless}
+use Rattle.plate.specs.Reading.{State, fault-of, rest-of, first-state, opened, open-denial}
+use Rattle.plate.specs.Readers.{to-come}
+use Rattle.plate.proofs.Steps.{unless-ok, unless-err}
 use Rattle.plate.proofs.Trips.{read-is-written, written-is-read, few-bytes, read-counts}
 
 -- a plate that decodes to a fault
@@ -55,3 +59,30 @@ rows-accepted bs m n small h e em en =
       counts = (counts .0 ∙ sym em, counts .1 ∙ sym en);
       few = subst (λ (x : List ℕ). length x ≤ 610) (back .1) (few-bytes (got .0) (back .0));
     }
+
+-- A reader that has just opened a plate: bs₀ is the plate that it was made over, and s₀ its first state.
+abbrev pub start : State
+start = record { place = 0; row = 0; counted = 0; framed = 0 }
+
+pub opened-ok : (bs bs₀ : List ℕ) (s₀ : State) (n : Counts) → bs₀ ≡ bs → s₀ ≡ start
+    → Ok n ≡ unless (open-denial bs₀ s₀) (to-come (opened bs₀ s₀))
+    → (header-denial bs ≡ None) × (n .counted ≡ field bs 4 6) × (n .framed ≡ field bs 10 6)
+opened-ok bs bs₀ s₀ n e f h =
+    let g : Ok n ≡ unless (header-denial bs) (to-come (first-state bs)) =
+    h ∙ ap (λ s. unless (open-denial bs₀ s) (to-come (opened bs₀ s))) f ∙ ap (λ x. unless (header-denial x) (to-come (first-state x))) e in
+    let got = unless-ok (header-denial bs) (to-come (first-state bs)) n g in
+    (got .0, ap (λ (c : Counts). c .counted) (got .1), ap (λ (c : Counts). c .framed) (got .1))
+
+pub opened-err : (bs bs₀ : List ℕ) (s₀ : State) (d : Denial) → bs₀ ≡ bs → s₀ ≡ start
+    → Err d ≡ unless (open-denial bs₀ s₀) (to-come (opened bs₀ s₀)) → header-denial bs ≡ Some d
+opened-err bs bs₀ s₀ d e f h =
+    let g : Err d ≡ unless (header-denial bs) (to-come (first-state bs)) =
+    h ∙ ap (λ s. unless (open-denial bs₀ s) (to-come (opened bs₀ s))) f ∙ ap (λ x. unless (header-denial x) (to-come (first-state x))) e in
+    unless-err (header-denial bs) (to-come (first-state bs)) d g
+
+-- what it has yet to read is all the rows
+pub opened-rest : (bs bs₀ bs₁ : List ℕ) (s₀ s₁ : State) → bs₀ ≡ bs → bs₁ ≡ bs₀ → s₀ ≡ start → s₁ ≡ opened bs₀ s₀
+    → (0 < s₁ .place) × (fault-of (rest-of bs₁ s₁) ≡ fault-of (rest-of bs (first-state bs)))
+opened-rest bs bs₀ bs₁ s₀ s₁ e g f h =
+    let first : s₁ ≡ first-state bs = h ∙ ap (opened bs₀) f ∙ ap first-state e in
+    (rw first (omega arith), ap (λ x. fault-of (rest-of x s₁)) (g ∙ e) ∙ ap (λ s. fault-of (rest-of bs s)) first)

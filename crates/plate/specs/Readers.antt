@@ -2,6 +2,7 @@
 use mathlib.Core.List.{List}
 use Prim.Native.Nat.{ℕ}
 use denote.Ref.{now}
+use Rattle.plate.specs.declared.reader.Counts.{Counts}
 use Rattle.plate.specs.declared.reader.Position.{Position}
 use Rattle.plate.specs.declared.reader.Reader.{Reader}
 use Rattle.plate.specs.Reading.{State}
@@ -19,3 +20,7 @@ plate-at at = now (at .cursor .plate)
 
 abbrev pub plate-of : Reader → List ℕ
 plate-of r = plate-at (r .at)
+
+-- the rows of each kind to come
+abbrev pub to-come : State → Counts
+to-come s = record { counted = s .counted; framed = s .framed }

@@ -47,11 +47,12 @@ pub record State : Type 0 where
   pub counted : ℕ
   pub framed : ℕ
 
--- what every reader keeps: rows begin at a byte, take at most 96 or 208 bits each, and are at most 32
+-- what every reader keeps: rows begin at a byte, take at most 96 or 208 bits each, and are at most 16 of each kind
 pub record Kept (s : State) : Type 0 where
   pub aligned : s .place % 8 ≡ 0
   pub within : s .place + (96 * s .counted + 208 * s .framed) ≤ 4880
   pub few : s .row + (s .counted + s .framed) ≤ 32
+  pub counts : (s .counted ≤ 16) × (s .framed ≤ 16)
 
 -- right after the header
 abbrev pub first-state : List ℕ → State

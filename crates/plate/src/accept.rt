@@ -5,26 +5,9 @@ ghost use Rattle.std.specs.Results.{Cases};
 ghost use Rattle.plate.specs.Plans.{Accepted, Refused, Written-is-read};
 ghost use Rattle.plate.specs.Reading.{rest-of, fault-of};
 ghost use Rattle.plate.specs.Readers.{state, plate-of};
-use super::reader::Position;
+use super::reader::Counts;
 use super::reader::Reader;
-use super::reading::header;
 use denial::Denial;
-
-// How many rows of each kind a plate has.
-#[derive(Clone, Copy, PartialEq, Eq, Debug)]
-pub struct Counts {
-    pub counted: u8,
-    pub framed: u8,
-}
-
-fn counts_of(first: Position) -> Counts
-    ensures { λ r. ⌜ r ≡ record { counted = first .entry .counted; framed = first .entry .framed } ⌝ }
-{
-    Counts {
-        counted: first.counted,
-        framed: first.framed,
-    }
-}
 
 // Reads all the rows to come.
 fn read_on(reader: &mut Reader) -> Result<(), Denial>
@@ -41,8 +24,8 @@ pub fn accept(plate: &[u8]) -> Result<Counts, Denial>
     ensures verdict { λ r. ⌜ Cases r (λ n. Accepted (now (plate .entry)) (n .counted) (n .framed)) (λ d. Refused (now (plate .entry)) d) ⌝ }
     ensures trips { λ _. ⌜ Written-is-read ⌝ }
 {
-    let first = header(plate)?;
-    let mut reader = Reader { at: first };
+    let mut reader = Reader::new(plate);
+    let counts = reader.open()?;
     read_on(&mut reader)?;
-    Ok(counts_of(first))
+    Ok(counts)
 }

@@ -12,6 +12,13 @@ pub(crate) struct Position<'a> {
     pub(crate) framed: u8,
 }
 
+// How many rows of each kind there are.
+#[derive(Clone, Copy, PartialEq, Eq, Debug)]
+pub struct Counts {
+    pub counted: u8,
+    pub framed: u8,
+}
+
 // Reads a plate row by row. At bit place 0 the header has not been read yet.
 #[derive(Drop)]
 pub struct Reader<'a> {
@@ -20,4 +27,5 @@ pub struct Reader<'a> {
     ghost aligned: { at .cursor .place % 8 ≡ 0 },
     ghost within: { at .cursor .place + (96 * at .counted + 208 * at .framed) ≤ 4880 },
     ghost few: { at .row + (at .counted + at .framed) ≤ 32 },
+    ghost counts: { (at .counted ≤ 16) × (at .framed ≤ 16) },
 }

@@ -9,8 +9,9 @@ ghost use Rattle.std.specs.declared.option.Option.the-variants.{Some, None};
 ghost use Rattle.plate.specs.Bits.{field};
 ghost use Rattle.plate.specs.Plans.{unless, counts-fault, extra-fault, header-denial};
 ghost use Rattle.plate.specs.Reading.{Kept, first-state, told-next, open-denial, opened, row-denial, next-row, after-row, next-denial, Sound-next};
-ghost use Rattle.plate.specs.Readers.{state, state-at, plate-of, plate-at};
+ghost use Rattle.plate.specs.Readers.{state, state-at, plate-of, plate-at, to-come};
 use super::cursor::Cursor;
+use super::reader::Counts;
 use super::reader::Position;
 use super::reader::Reader;
 use super::row::Row;
@@ -45,7 +46,7 @@ fn extra_fault(cursor: Cursor) -> Option<Denial>
 }
 
 // The header: edition 4 bits, number of miss-counted rows 6, number of frame rows 6. The rest is rows.
-pub(crate) fn header(plate: &[u8]) -> Result<Position<'_>, Denial>
+fn header(plate: &[u8]) -> Result<Position<'_>, Denial>
     ensures { λ r. ⌜ Cases r
         (λ at. (header-denial (now (plate .entry)) ≡ None) × (plate-at at ≡ now (plate .entry)) × (state-at at ≡ first-state (now (plate .entry)))
         × (at .counted ≤ 16) × (at .framed ≤ 16))
@@ -143,6 +144,23 @@ impl<'a> Reader<'a> {
                 framed: 0,
             },
         }
+    }
+
+    // Reads the header, where that was not done yet: how many rows of each kind are to come. A refusal leaves the reader
+    // where it was.
+    pub fn open(&mut self) -> Result<Counts, Denial>
+        ensures plate { λ _. ⌜ plate-of (now (self .exit)) ≡ plate-of (now (self .entry)) ⌝ }
+        ensures result { λ r. ⌜ r ≡ unless (open-denial (plate-of (now (self .entry))) (state (now (self .entry))))
+            (to-come (opened (plate-of (now (self .entry))) (state (now (self .entry))))) ⌝ }
+        ensures after { λ r. ⌜ state (now (self .exit)) ≡ cond (isOk r)
+            (opened (plate-of (now (self .entry))) (state (now (self .entry)))) (state (now (self .entry))) ⌝ }
+    {
+        let at = opened(self.at)?;
+        *self = Reader { at };
+        Ok(Counts {
+            counted: at.counted,
+            framed: at.framed,
+        })
     }
 
     // The next row, or none after the last. A refusal leaves the reader where it was.
