@@ -13,7 +13,7 @@ returns-in-Break-next-row c =
     let told = c .in-Break-next-row .ensures tt in
     let err = reads-err (plate-of r) (state r) _ _ (c .loop .inv .1) (told .result) in
     let p = err-from-errBy (c .from-residual .result) (c .from-residual .ensures .1) in
-    rw (p .1, p .2, ← (c .loop .inv .0)) (sym err ∙ c .loop .inv .2)
+    rw (p .1, p .2, ← (c .loop .inv .0)) (sym (ap fault-of err) ∙ c .loop .inv .2)
 
 pub loop-again : need.loop-again
 loop-again c =
@@ -29,4 +29,4 @@ returns c =
     let told = c .in-Continue-next-row .ensures tt in
     let is = rw (c .in-rest .is) at (told .result) in
     let end = reads-end (plate-of r) (state r) (c .loop .inv .1) is in
-    rw (← (c .loop .inv .0)) (sym end ∙ c .loop .inv .2)
+    rw (← (c .loop .inv .0)) (sym (ap fault-of end) ∙ c .loop .inv .2)
