@@ -6,9 +6,7 @@ use native.Mathlib.Omega.{arith}
 use lib.ListN.{length, getD, take, drop}
 use borrow.Rule.Slice.PartMut.{putMid}
 use Rattle.std.specs.shelf.Lists.{joined}
-use Rattle.std.proofs.shelf.Lists.{drop-drop, drop-all, append-nil, take-at, length-append, take-more, map-push}
-use Rattle.plate.specs.declared.frame.Frame.{Frame}
-use Rattle.plate.specs.Plans.{bytes-of-frame}
+use Rattle.std.proofs.shelf.Lists.{drop-drop, drop-all, drop-at, append-nil, take-at, take-append-drop, length-append, length-drop, length-take-le, take-more}
 use Rattle.plate.specs.Writing.{put-at}
 
 -- a part that is written whole, as put-at
@@ -24,16 +22,45 @@ filled front rest f r q e h =
     drop-drop (length (f ++ q) - length front) (length front) (f ++ q) ∙ drop-all _ (f ++ q) (omega (arith, length-append f q)) in
     rw (a, b, h) (ap (λ t. front ++ t) (append-nil rest))
 
--- the bytes of one frame more
-pub joined-more : (fs : List Frame) (i : ℕ) (d : Frame) → i < length fs
-    → joined bytes-of-frame (take (i + 1) fs) ≡ joined bytes-of-frame (take i fs) ++ bytes-of-frame (getD fs i d)
-joined-more fs i d l = ap (joined bytes-of-frame) (take-more fs i d l) ∙ pushed (take i fs) (getD fs i d)
+-- the bytes of one item more
+pub joined-more : {X : Type 0} (f : X → List ℕ) (xs : List X) (i : ℕ) (d : X) → i < length xs
+    → joined f (take (i + 1) xs) ≡ joined f (take i xs) ++ f (getD xs i d)
+joined-more f xs i d l = ap (joined f) (take-more xs i d l) ∙ pushed f (take i xs) (getD xs i d)
   where
-    pushed : (xs : List Frame) (x : Frame) → joined bytes-of-frame (xs ++ (x ∷ [])) ≡ joined bytes-of-frame xs ++ bytes-of-frame x
-    pushed [] x = refl
-    pushed (y ∷ ys) x = ap (λ t. bytes-of-frame y ++ t) (pushed ys x)
+    pushed : {X : Type 0} (f : X → List ℕ) (ys : List X) (y : X) → joined f (ys ++ (y ∷ [])) ≡ joined f ys ++ f y
+    pushed f [] y = append-nil (f y)
+    pushed f (z ∷ zs) y = ap (λ t. f z ++ t) (pushed f zs y) ∙ sym (append-assoc (f z) (joined f zs) (f y))
 
 -- what was put in, by its two parts
 pub put-both : (bs out x y front rest : List ℕ) (at : ℕ) → out ≡ put-at bs at (x ++ y) → x ≡ front → y ≡ rest
     → out ≡ put-at bs at (front ++ rest)
 put-both bs out x y front rest at e f g = e ∙ rw (f, g)
+
+-- two parts, the second right after the first
+pub put-put : (bs xs ys : List ℕ) (a : ℕ) → a + length xs ≤ length bs
+    → put-at (put-at bs a xs) (a + length xs) ys ≡ put-at bs a (xs ++ ys)
+put-put bs xs ys a h =
+    let front : List ℕ = take a bs in
+    let n : length front ≡ a = length-take-le a bs (omega arith) in
+    let whole : put-at bs a xs ≡ (front ++ xs) ++ drop (a + length xs) bs = sym (append-assoc front xs (drop (a + length xs) bs)) in
+    let size : length (front ++ xs) ≡ a + length xs = omega (arith, length-append front xs) in
+    let b : take (a + length xs) (put-at bs a xs) ≡ front ++ xs = ap (take (a + length xs)) whole ∙ take-at (front ++ xs) (drop (a + length xs) bs) (a + length xs) size in
+    let rest : drop (a + length xs + length ys) (put-at bs a xs) ≡ drop (a + length (xs ++ ys)) bs =
+    sym (drop-drop (length ys) (a + length xs) (put-at bs a xs))
+    ∙ ap (drop (length ys)) (ap (drop (a + length xs)) whole ∙ drop-at (front ++ xs) (drop (a + length xs) bs) (a + length xs) size)
+    ∙ drop-drop (length ys) (a + length xs) bs ∙ ap (λ t. drop t bs) (omega (arith, length-append xs ys)) in
+    rw (b, rest) (append-assoc front xs (ys ++ drop (a + length (xs ++ ys)) bs) ∙ ap (λ t. front ++ t) (sym (append-assoc xs ys (drop (a + length (xs ++ ys)) bs))))
+
+-- nothing written
+pub put-none : (bs : List ℕ) (a : ℕ) → put-at bs a [] ≡ bs
+put-none bs a = let e : a + 0 ≡ a = omega arith in rw e (take-append-drop a bs)
+
+pub put-length : (bs xs : List ℕ) (a : ℕ) → a + length xs ≤ length bs → length (put-at bs a xs) ≡ length bs
+put-length bs xs a h =
+    omega (
+      arith,
+      length-append (take a bs) (xs ++ drop (a + length xs) bs),
+      length-append xs (drop (a + length xs) bs),
+      length-take-le a bs (omega arith),
+      length-drop (a + length xs) bs,
+    )

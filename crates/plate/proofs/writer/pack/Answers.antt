@@ -18,7 +18,7 @@ loop-i-again c =
     let is : c .copy-from-slice .last .self ≡ bytes-of-frame (frame-at fs i) = c .copy-from-slice .ensures .after ∙ c .pack-one .ensures in
     let size : length (c .copy-from-slice .last .self) ≡ 3 = ap length is in
     let put = take-putMid (3 * i) _ (c .loop-i .bytes) (c .copy-from-slice .last .self) (3 * (i + 1)) (omega arith) (omega arith) in
-    let more = joined-more fs i (record { budget = 0; rank = 0 }) (omega arith) in
+    let more = joined-more bytes-of-frame fs i (record { budget = 0; rank = 0 }) (omega arith) in
     (search (needs, places), put ∙ rw (c .loop-i .inv .1, is) (sym more))
 
 pub returns : need.returns
