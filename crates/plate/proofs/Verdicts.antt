@@ -37,7 +37,7 @@ faultless : (r : Result Plan Denial) → None ≡ fault-of r → (plan : Plan) �
 faultless (Ok plan) e = (plan, refl)
 faultless (Err c) e = let z : _≡_ {A = ℕ} 0 1 = cc in absurd (omega arith)
 
-decode-rows : (bs : List ℕ) → header-denial bs ≡ None → decode bs ≡ rest-of bs (first-state bs)
+pub decode-rows : (bs : List ℕ) → header-denial bs ≡ None → decode bs ≡ rest-of bs (first-state bs)
 unfolding decode
 decode-rows bs h = rw h
 
@@ -82,7 +82,7 @@ opened-err bs bs₀ s₀ d e f h =
 
 -- what it has yet to read is all the rows
 pub opened-rest : (bs bs₀ bs₁ : List ℕ) (s₀ s₁ : State) → bs₀ ≡ bs → bs₁ ≡ bs₀ → s₀ ≡ start → s₁ ≡ opened bs₀ s₀
-    → (0 < s₁ .place) × (fault-of (rest-of bs₁ s₁) ≡ fault-of (rest-of bs (first-state bs)))
+    → (0 < s₁ .place) × (rest-of bs₁ s₁ ≡ rest-of bs (first-state bs))
 opened-rest bs bs₀ bs₁ s₀ s₁ e g f h =
     let first : s₁ ≡ first-state bs = h ∙ ap (opened bs₀) f ∙ ap first-state e in
-    (rw first (omega arith), ap (λ x. fault-of (rest-of x s₁)) (g ∙ e) ∙ ap (λ s. fault-of (rest-of bs s)) first)
+    (rw first (omega arith), ap (λ x. rest-of x s₁) (g ∙ e) ∙ ap (rest-of bs) first)

@@ -1,5 +1,6 @@
-use mathlib.Core.Path.{_∙_}
+use mathlib.Core.Path.{ap, _∙_}
 use Rattle.std.proofs.shelf.Results.{err-from-errBy}
+use Rattle.plate.specs.Reading.{fault-of}
 use Rattle.plate.specs.Readers.{state, plate-of}
 use Rattle.plate.proofs.Trips.{written-is-read}
 use Rattle.plate.proofs.Verdicts.{header-refused, rows-refused, rows-accepted, opened-ok, opened-err, opened-rest}
@@ -25,7 +26,7 @@ returns-in-Break-read-on c =
     let told = c .in-Continue-counts .ensures tt in
     let first = opened-ok bs _ _ _ (c .new-reader .ensures .plate) (c .new-reader .ensures .state) (told .result) in
     let rest = opened-rest bs _ _ _ _ (c .new-reader .ensures .plate) (told .plate) (c .new-reader .ensures .state) (told .after) in
-    record { verdict = rw (p .1, p .2) (rows-refused bs _ (first .0) (c .in-Break-read-on .ensures tt ∙ rest .1)); trips = written-is-read }
+    record { verdict = rw (p .1, p .2) (rows-refused bs _ (first .0) (c .in-Break-read-on .ensures tt ∙ ap fault-of (rest .1))); trips = written-is-read }
 
 pub returns : need.returns
 returns c =
@@ -35,6 +36,6 @@ returns c =
     let rest = opened-rest bs _ _ _ _ (c .new-reader .ensures .plate) (told .plate) (c .new-reader .ensures .state) (told .after) in
     record {
       verdict =
-          rows-accepted bs _ _ (λ i. c .typed .plate i .fits) (first .0) (c .in-Continue-read-on .ensures tt ∙ rest .1) (first .1) (first .2);
+          rows-accepted bs _ _ (λ i. c .typed .plate i .fits) (first .0) (c .in-Continue-read-on .ensures tt ∙ ap fault-of (rest .1)) (first .1) (first .2);
       trips = written-is-read;
     }
