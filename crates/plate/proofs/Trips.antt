@@ -167,7 +167,7 @@ both-zero : (m n : ℕ) → 1 ≤ m + n → (eqb m 0 && eqb n 0) ≡ false
 both-zero zero n h = ne-eqb n 0 (omega arith)
 both-zero (suc m) n h = and-left (eqb (suc m) 0) (eqb n 0) (ne-eqb (suc m) 0 (omega arith))
 
-counts-fit : (m n : ℕ) → m ≤ 16 → n ≤ 16 → 1 ≤ m + n → counts-fault m n ≡ None
+pub counts-fit : (m n : ℕ) → m ≤ 16 → n ≤ 16 → 1 ≤ m + n → counts-fault m n ≡ None
 counts-fit m n hm hn h = rw (le-ltb 16 m hm, le-ltb 16 n hn, both-zero m n h)
 
 counts-say : (m n : ℕ) → counts-fault m n ≡ None → (m ≤ 16) × (n ≤ 16) × (1 ≤ m + n)
