@@ -84,12 +84,20 @@ fn fill(part: &mut [u8], front: &[u8], rest: &[u8])
     part[n..].copy_from_slice(rest);
 }
 
+// The byte after a row of so many fixed bytes and so many more.
+fn row_end(at: usize, front: usize, rest: usize) -> usize
+    requires { ⌜ at + (front + rest) < 2 ^ 64 ⌝ }
+    ensures { λ r. ⌜ r ≡ at + (front + rest) ⌝ }
+{
+    at + front + rest
+}
+
 // Fills a row at its place, and leaves all other bytes as they were.
 fn put_row(out: &mut [u8], at: usize, front: &[u8], rest: &[u8])
     requires { ⌜ at + (length (now front) + length (now rest)) ≤ length (now out) ⌝ }
     ensures { λ _. ⌜ now (out .exit) ≡ put-at (now (out .entry)) at (now (front .entry) ++ now (rest .entry)) ⌝ }
 {
-    let end = at + front.len() + rest.len();
+    let end = row_end(at, front.len(), rest.len());
     fill(&mut out[at..end], front, rest);
 }
 
