@@ -6,3 +6,5 @@ pub mod Missed
 pub mod Framed
 pub mod Attained
 pub mod Counting
+pub mod CountedRows
+pub mod FramedRows

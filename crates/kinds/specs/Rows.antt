@@ -1,25 +1,25 @@
 -- The rows of the two tables: what each says, its first fault, and the rules that it keeps. Assumes nothing.
 use mathlib.Core.List.{[]}
-use Prim.Native.Nat.{ℕ, _+_, _≤_, _<_}
-use lib.ListN.{length, take}
-use lib.Dec.{ltb}
+use Prim.Native.Nat.{ℕ, _+_, _-_, _≤_, _<_}
+use lib.ListN.{length, getD, take}
+use lib.Dec.{ltb, leb}
 use Rattle.std.specs.declared.option.Option.{Option}
 use Rattle.std.specs.Options.{orOther}
 use Rattle.denial.specs.declared.Denial.{Denial}
 use Rattle.denial.specs.declared.Rule.the-variants.{Ranks}
 use Rattle.denial.specs.Numbers.{denied}
+use Rattle.group.specs.declared.meaning.Outcome.{Outcome}
+use Rattle.group.specs.declared.meaning.Outcome.the-variants.{Finish, Miss}
+use Rattle.group.specs.declared.meaning.Terms.{Terms}
 use Rattle.group.specs.Task.{Task}
-use Rattle.plate.specs.Faults.{when, counted-fault, framed-fault}
+use Rattle.plate.specs.Faults.{frame-at, when, counted-fault, framed-fault}
 use Rattle.plate.specs.Plans.{Sound-counted, Sound-framed}
 use Rattle.plate.specs.Rows.{Counted, Framed}
 use Rattle.kinds.specs.declared.rows.MissCountedRow.{MissCountedRow}
 use Rattle.kinds.specs.declared.rows.FrameRow.{FrameRow}
+use Rattle.kinds.specs.Cycle.{next-class}
 use Rattle.kinds.specs.MissCounted.{counted-task}
-use Rattle.kinds.specs.Frames.{framed-task}
-
--- how many classes a miss-counted row has
-abbrev pub counted-classes : MissCountedRow → ℕ
-counted-classes r = r .misses + 1
+use Rattle.kinds.specs.Frames.{framed-task, frame-terms, frame-above}
 
 -- what a miss-counted row says: its ranks are the first of its array
 abbrev pub counted-of : MissCountedRow → Counted
@@ -32,8 +32,22 @@ counted-row-fault r =
 
 -- a row whose ranks are all there and that keeps the rules of its kind
 pub record Good-counted (r : MissCountedRow) : Type 0 where
+  pub few : r .misses ≤ 7
   pub whole : r .misses < length (r .ranks)
   pub sound : Sound-counted (counted-of r)
+
+-- the terms of one of its classes, from 1 on
+abbrev pub counted-class : MissCountedRow → ℕ → Terms
+counted-class r c = record { rank = getD (r .ranks) (c - 1) 0; budget = r .budget; tolerated = leb c (r .misses) }
+
+-- the class of a miss-counted task of k classes after a job
+abbrev pub counted-next : ℕ → Outcome → ℕ → ℕ
+counted-next k Finish x = 1
+counted-next k Miss x = next-class k x
+
+-- the task that it means
+abbrev pub counted-row-task : MissCountedRow → Task
+counted-row-task r = counted-task (counted-of r)
 
 -- a row of zeros
 abbrev pub no-counted : MissCountedRow
@@ -50,8 +64,22 @@ framed-row-fault r =
 
 -- a row whose frames are all there and that keeps the rules of its kind
 pub record Good-framed (r : FrameRow) : Type 0 where
+  pub some : 1 ≤ r .count
+  pub few : r .count ≤ 8
   pub whole : r .count ≤ length (r .frames)
   pub sound : Sound-framed (framed-of r)
+
+-- the terms of one of its frames, from 1 on
+abbrev pub framed-class : FrameRow → ℕ → Terms
+framed-class r c = frame-terms (frame-at (r .frames) (c - 1))
+
+-- the task that it means
+abbrev pub framed-row-task : FrameRow → Task
+framed-row-task r = framed-task (framed-of r)
+
+-- the budgets of its frames whose rank is above p
+abbrev pub row-above : FrameRow → ℕ → ℕ → ℕ
+row-above r p = frame-above (take (r .count) (r .frames)) p
 
 -- a row of zeros
 abbrev pub no-framed : FrameRow
