@@ -1,5 +1,5 @@
 -- A miss-counted row and the task that it means.
-use mathlib.Core.Path.{_≡_, refl, sym, ap, _∙_}
+use mathlib.Core.Path.{_≡_, refl, sym, ap, subst, _∙_}
 use mathlib.Core.List.{List, [], _∷_}
 use mathlib.Core.Bool.{cond}
 use Prim.Native.Nat.{ℕ, zero, suc, _+_, _*_, _≤_, _<_, _-_, min}
@@ -7,18 +7,27 @@ use native.Mathlib.Nat.{not-suc-le-zero, mul-le-mul}
 use native.Mathlib.Omega.{arith}
 use lib.ListN.{length, getD, take, length-take}
 use lib.Dec.{leb, ltb}
+use Rattle.std.specs.declared.option.Option.{Option}
+use Rattle.std.specs.declared.option.Option.the-variants.{Some, None}
+use Rattle.std.specs.Options.{Cases as BySome}
 use Rattle.std.proofs.shelf.Lists.{getD-take, getD-past}
+use Rattle.std.proofs.shelf.Tests.{le-ltb}
+use Rattle.denial.specs.declared.Denial.{Denial}
 use Rattle.group.specs.declared.meaning.Outcome.{Outcome}
 use Rattle.group.specs.declared.meaning.Outcome.the-variants.{Finish, Miss}
 use Rattle.group.specs.Task.{Position, Lawful, no-terms, terms-of, after}
+use Rattle.plate.specs.Faults.{counted-fault}
+use Rattle.plate.specs.Plans.{Sound-counted}
 use Rattle.kinds.specs.declared.rows.MissCountedRow.{MissCountedRow}
 use Rattle.kinds.specs.Cycle.{next-class}
-use Rattle.kinds.specs.MissCounted.{classes-of, count-above, most}
-use Rattle.kinds.specs.Rows.{Good-counted, counted-of, counted-class, counted-next, counted-row-task}
+use Rattle.kinds.specs.MissCounted.{counted-task, classes-of, count-above, most}
+use Rattle.kinds.specs.Rows.{Good-counted, counted-classes, counted-of, counted-class, counted-next, counted-row-fault, counted-row-task}
 use Rattle.kinds.proofs.Cycle.{is-within}
 use Rattle.kinds.proofs.Most.{most-few}
 use Rattle.kinds.proofs.Ranks.{classes-length, class-terms, count-le}
 use Rattle.kinds.proofs.Missed.{lawful}
+use Rattle.kinds.proofs.Props.{good-counted-prop}
+use Rattle.kinds.proofs.Tables.{Kind}
 
 -- one more rank counted
 pub count-more : (p : ℕ) (rs : List ℕ) (i : ℕ) → i < length rs → count-above p (take (i + 1) rs) ≡ count-above p (take i rs) + cond (ltb p (getD rs i 0)) 1 0
@@ -93,3 +102,26 @@ module _ (r : MissCountedRow) (k : Good-counted r) where
       let b : r .budget ≤ 4095 = omega (arith, k .sound .budget .1, k .sound .gap .1) in
       let d : q ≤ 4095 = omega (arith, most-few (r .misses + 1) n J h) in
       mul-le-mul b d
+
+-- the rows of a miss-counted table
+pub counted-kind : Kind Good-counted counted-classes counted-of counted-task
+counted-kind = record {
+  one = good-counted-prop;
+  some = λ r k. omega arith;
+  counted = row-classes;
+  placed = row-placed;
+  lawful = row-lawful;
+}
+
+-- a row's fault by that of its first n ranks, and a row without fault is good
+module _ (r : MissCountedRow) (n : ℕ) (o : Option Denial) (e : n ≡ r .misses + 1) (h : r .misses ≤ 7) where
+  pub fault-past : o ≡ counted-fault 0 0 (r .gap) (r .budget) (take n (r .ranks)) → o ≡ counted-row-fault r
+  fault-past v = v ∙ (ap (λ m. counted-fault 0 0 (r .gap) (r .budget) (take m (r .ranks))) e ∙ rw (le-ltb 7 (r .misses) h))
+
+  pub faultless : r .misses < length (r .ranks) →
+      BySome o (Sound-counted (record { gap = r .gap; budget = r .budget; ranks = take n (r .ranks) })) (λ _. Unit {0}) → BySome o (Good-counted r) (λ _. Unit {0})
+  faultless l s = good o (subst (λ m. BySome o (Sound-counted (record { gap = r .gap; budget = r .budget; ranks = take m (r .ranks) })) (λ _. Unit {0})) e s)
+    where
+      good : (o : Option Denial) → BySome o (Sound-counted (counted-of r)) (λ _. Unit {0}) → BySome o (Good-counted r) (λ _. Unit {0})
+      good None s = record { few = h; whole = l; sound = s }
+      good (Some d) s = tt

@@ -6,5 +6,7 @@ pub mod Missed
 pub mod Framed
 pub mod Attained
 pub mod Counting
+pub mod Props
+pub mod Tables
 pub mod CountedRows
 pub mod FramedRows

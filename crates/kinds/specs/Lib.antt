@@ -3,4 +3,5 @@ pub mod MissCounted
 pub mod Frames
 pub mod Rows
 pub mod Tables
+pub mod Listed
 pub mod Promises

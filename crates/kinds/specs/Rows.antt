@@ -21,6 +21,10 @@ use Rattle.kinds.specs.Cycle.{next-class}
 use Rattle.kinds.specs.MissCounted.{counted-task}
 use Rattle.kinds.specs.Frames.{framed-task, frame-terms, frame-above}
 
+-- how many classes a miss-counted row has
+abbrev pub counted-classes : MissCountedRow → ℕ
+counted-classes r = r .misses + 1
+
 -- what a miss-counted row says: its ranks are the first of its array
 abbrev pub counted-of : MissCountedRow → Counted
 counted-of r = record { gap = r .gap; budget = r .budget; ranks = take (r .misses + 1) (r .ranks) }
@@ -52,6 +56,10 @@ counted-row-task r = counted-task (counted-of r)
 -- a row of zeros
 abbrev pub no-counted : MissCountedRow
 no-counted = record { gap = 0; budget = 0; misses = 0; ranks = [] }
+
+-- how many classes a frame row has
+abbrev pub framed-classes : FrameRow → ℕ
+framed-classes r = r .count
 
 -- what a frame row says: its frames are the first of its array
 abbrev pub framed-of : FrameRow → Framed

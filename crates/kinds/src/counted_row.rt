@@ -2,14 +2,18 @@
 ghost use mathlib.Core.Path.{_≡_};
 ghost use Prim.Native.Nat.{_+_, _≤_};
 ghost use lib.ListN.{take};
+ghost use Rattle.std.specs.Options.{Cases as BySome};
 ghost use Rattle.group.specs.Task.{terms-of};
 ghost use Rattle.kinds.specs.MissCounted.{count-above, most};
-ghost use Rattle.kinds.specs.Rows.{Good-counted, counted-class, counted-next, counted-row-task};
+ghost use Rattle.kinds.specs.Rows.{Good-counted, counted-class, counted-next, counted-row-fault, counted-row-task};
 use crate::leaf::above;
 use crate::leaf::next_class;
 use crate::rows::MissCountedRow;
+use denial::Denial;
+use denial::Rule;
 use group::Outcome;
 use group::Terms;
+use plate::rules::miss_counted_fault;
 
 // Of so many jobs in a row, the most that can be in the top `n` of `classes` classes.
 fn most_in_top(classes: u32, n: u32, jobs: u32) -> u32
@@ -20,6 +24,18 @@ fn most_in_top(classes: u32, n: u32, jobs: u32) -> u32
 }
 
 impl MissCountedRow {
+    // The first fault, as of a row that stands alone from bit 0 on. A row without fault is good.
+    pub(crate) fn fault(&self) -> Option<Denial>
+        ensures value { λ r. ⌜ r ≡ counted-row-fault (now (self .entry)) ⌝ }
+        ensures good { λ r. ⌜ BySome r (Good-counted (now (self .entry))) (λ _. Unit {0}) ⌝ }
+    {
+        if self.misses > 7 {
+            return Some(Rule::Ranks.denies(0, 32));
+        }
+        let count = self.misses as usize + 1;
+        miss_counted_fault(self.gap, self.budget, &self.ranks[0..count])
+    }
+
     // The terms of a class that there is.
     fn class_terms(&self, class: u8) -> Terms
         requires { ⌜ Good-counted (now self) ⌝ ∗ ⌜ 1 ≤ class ⌝ ∗ ⌜ class ≤ now self .misses + 1 ⌝ }

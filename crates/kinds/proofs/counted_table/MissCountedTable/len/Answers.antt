@@ -1,0 +1,8 @@
+use mathlib.Core.Path.{sym}
+use Rattle.kinds.specs.Rows.{no-counted}
+use Rattle.kinds.proofs.CountedRows.{counted-kind}
+use Rattle.kinds.proofs.Tables.{rows-length}
+use Rattle.kinds.proofs.counted_table.MissCountedTable.len.Needs as need
+
+pub returns : need.returns
+returns c = let t = c .args .self .now in sym (rows-length counted-kind no-counted (t .rows) (t .places) (t .len) (t .fits) (t .keeps))

@@ -1,0 +1,13 @@
+use Prim.Native.Nat.{_+_, _-_}
+use native.Mathlib.Omega.{arith}
+use Rattle.kinds.proofs.CountedRows.{fault-past, faultless}
+use Rattle.kinds.proofs.rows.MissCountedRow.fault.Needs as need
+
+pub returns : need.returns
+returns c =
+    let row = c .args .self .now in
+    let fault = c .miss-counted-fault in
+    record {
+      value = fault-past row (row .misses + 1 - 0) (fault .result) (omega arith) (c .if-self-gt7 .left) (fault .ensures .value);
+      good = faultless row (row .misses + 1 - 0) (fault .result) (omega arith) (c .if-self-gt7 .left) (omega arith) (fault .ensures .sound);
+    }
