@@ -19,9 +19,9 @@ use Rattle.kinds.specs.MissCounted.{counted-task, most, count-above}
 use Rattle.kinds.specs.Frames.{framed-task, frame-above}
 use Rattle.kinds.proofs.Cover.{top}
 use Rattle.kinds.proofs.Ranks.{count-le, low-ranks, class-terms}
-use Rattle.kinds.proofs.Missed.{moves, rising, lawful}
+use Rattle.kinds.proofs.CountedLaws.{moves, rising, lawful}
 use Rattle.kinds.proofs.Cycle.{within-low, within-high, is-within, wraps, turn, largest-of}
-use Rattle.kinds.proofs.Framed as frames
+use Rattle.kinds.proofs.FramedLaws as frames
 
 -- frames: begin at the best start
 pub framed-attained : (f : Framed) → Sound-framed f → Attained (framed-task f)

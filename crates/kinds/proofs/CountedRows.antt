@@ -11,8 +11,10 @@ use Rattle.std.specs.declared.option.Option.{Option}
 use Rattle.std.specs.declared.option.Option.the-variants.{Some, None}
 use Rattle.std.specs.Options.{Cases as BySome}
 use Rattle.std.proofs.shelf.Lists.{getD-take, getD-past}
-use Rattle.std.proofs.shelf.Tests.{le-ltb}
+use Rattle.std.proofs.shelf.Tests.{le-ltb, lt-ltb}
 use Rattle.denial.specs.declared.Denial.{Denial}
+use Rattle.denial.specs.declared.Rule.the-variants.{Ranks}
+use Rattle.denial.specs.Numbers.{denied}
 use Rattle.group.specs.declared.meaning.Outcome.{Outcome}
 use Rattle.group.specs.declared.meaning.Outcome.the-variants.{Finish, Miss}
 use Rattle.group.specs.Task.{Position, Lawful, no-terms, terms-of, after}
@@ -25,7 +27,7 @@ use Rattle.kinds.specs.Rows.{Good-counted, counted-classes, counted-of, counte
 use Rattle.kinds.proofs.Cycle.{is-within}
 use Rattle.kinds.proofs.Most.{most-few}
 use Rattle.kinds.proofs.Ranks.{classes-length, class-terms, count-le}
-use Rattle.kinds.proofs.Missed.{lawful}
+use Rattle.kinds.proofs.CountedLaws.{lawful}
 use Rattle.kinds.proofs.Props.{good-counted-prop}
 use Rattle.kinds.proofs.Tables.{Kind}
 
@@ -113,9 +115,15 @@ counted-kind = record {
   lawful = row-lawful;
 }
 
+-- a row of too many classes
+pub fault-many : (r : MissCountedRow) → 7 < r .misses → Some (denied Ranks 0 32) ≡ counted-row-fault r
+unfolding counted-row-fault
+fault-many r h = rw (lt-ltb 7 (r .misses) h)
+
 -- a row's fault by that of its first n ranks, and a row without fault is good
 module _ (r : MissCountedRow) (n : ℕ) (o : Option Denial) (e : n ≡ r .misses + 1) (h : r .misses ≤ 7) where
   pub fault-past : o ≡ counted-fault 0 0 (r .gap) (r .budget) (take n (r .ranks)) → o ≡ counted-row-fault r
+  unfolding counted-row-fault
   fault-past v = v ∙ (ap (λ m. counted-fault 0 0 (r .gap) (r .budget) (take m (r .ranks))) e ∙ rw (le-ltb 7 (r .misses) h))
 
   pub faultless : r .misses < length (r .ranks) →

@@ -16,8 +16,8 @@ use Rattle.kinds.specs.MissCounted.{counted-task, Miss-counted}
 use Rattle.kinds.specs.Frames.{framed-task, frame-terms}
 use Rattle.kinds.proofs.Cycle.{within-low, within-high, next-up, next-round}
 use Rattle.kinds.proofs.Ranks.{classes-length, class-terms, one-class}
-use Rattle.kinds.proofs.Missed as missed
-use Rattle.kinds.proofs.Framed as frames
+use Rattle.kinds.proofs.CountedLaws as missed
+use Rattle.kinds.proofs.FramedLaws as frames
 
 -- tolerated in every class but the last
 but-last : (c k : ℕ) → 1 ≤ k → ltb c k ≡ leb c (k - 1)

@@ -1,5 +1,5 @@
 -- A frame row and the task that it means.
-use mathlib.Core.Path.{_≡_, refl, sym, ap, _∙_}
+use mathlib.Core.Path.{_≡_, refl, sym, ap, subst, _∙_}
 use mathlib.Core.List.{map}
 use mathlib.Core.Bool.{cond}
 use Prim.Native.Nat.{ℕ, zero, suc, _+_, _*_, _≤_, _<_, _-_, _/_, _%_, min}
@@ -7,17 +7,27 @@ use native.Mathlib.Nat.{not-suc-le-zero}
 use native.Mathlib.Omega.{arith}
 use lib.ListN.{length, take, length-take}
 use lib.Dec.{ltb}
+use Rattle.std.specs.declared.option.Option.{Option}
+use Rattle.std.specs.declared.option.Option.the-variants.{Some, None}
+use Rattle.std.specs.Options.{Cases as BySome}
 use Rattle.std.proofs.shelf.Lists.{getD-take, getD-past, length-map}
+use Rattle.std.proofs.shelf.Tests.{le-ltb, lt-ltb}
+use Rattle.denial.specs.declared.Denial.{Denial}
+use Rattle.denial.specs.declared.Rule.the-variants.{Ranks}
+use Rattle.denial.specs.Numbers.{denied}
 use Rattle.group.specs.declared.meaning.Outcome.{Outcome}
 use Rattle.group.specs.declared.meaning.Outcome.the-variants.{Finish, Miss}
 use Rattle.group.specs.Task.{Position, Lawful, no-terms, terms-of, after}
-use Rattle.plate.specs.Faults.{frame-at}
+use Rattle.plate.specs.Faults.{frame-at, framed-fault}
+use Rattle.plate.specs.Plans.{Sound-framed}
 use Rattle.kinds.specs.declared.rows.FrameRow.{FrameRow}
 use Rattle.kinds.specs.Cycle.{next-class, successive, largest}
-use Rattle.kinds.specs.Frames.{frame-terms}
-use Rattle.kinds.specs.Rows.{Good-framed, framed-of, framed-class, framed-row-task, row-above}
+use Rattle.kinds.specs.Frames.{framed-task, frame-terms}
+use Rattle.kinds.specs.Rows.{Good-framed, framed-classes, framed-of, framed-class, framed-row-fault, framed-row-task, row-above}
 use Rattle.kinds.proofs.Cycle.{is-within, wraps, largest-plus, successive-small}
-use Rattle.kinds.proofs.Framed.{lawful, class-terms, above-small}
+use Rattle.kinds.proofs.FramedLaws.{lawful, class-terms, above-small}
+use Rattle.kinds.proofs.Props.{good-framed-prop}
+use Rattle.kinds.proofs.Tables.{Kind}
 
 module _ (r : FrameRow) (k : Good-framed r) where
   pub frames-count : length (take (r .count) (r .frames)) ≡ r .count
@@ -88,3 +98,32 @@ module _ (r : FrameRow) (k : Good-framed r) where
   pub demand-small : (p N : ℕ) → framed-row-task r .demand N p ≤ 4095 * 4095
   demand-small p N =
       omega (arith, row-lawful .grows N (N + 4095) p (omega arith), row-lawful .beyond (N + 4095) p (omega arith), row-lawful .capped 4095 p)
+
+-- the rows of a frame table
+pub framed-kind : Kind Good-framed framed-classes framed-of framed-task
+framed-kind = record {
+  one = good-framed-prop;
+  some = λ r k. k .some;
+  counted = row-classes;
+  placed = row-placed;
+  lawful = row-lawful;
+}
+
+-- a row of too many classes
+pub fault-many : (r : FrameRow) → 8 < r .count → Some (denied Ranks 0 28) ≡ framed-row-fault r
+unfolding framed-row-fault
+fault-many r h = rw (lt-ltb 8 (r .count) h)
+
+-- a row's fault by that of its first n frames, and a row without fault is good
+module _ (r : FrameRow) (n : ℕ) (o : Option Denial) (e : n ≡ r .count) (h : r .count ≤ 8) where
+  pub fault-past : o ≡ framed-fault 0 0 (r .gap) (take n (r .frames)) → o ≡ framed-row-fault r
+  unfolding framed-row-fault
+  fault-past v = v ∙ (ap (λ m. framed-fault 0 0 (r .gap) (take m (r .frames))) e ∙ rw (le-ltb 8 (r .count) h))
+
+  pub faultless : r .count ≤ length (r .frames) →
+      BySome o (Sound-framed (record { gap = r .gap; frames = take n (r .frames) })) (λ _. Unit {0}) → BySome o (Good-framed r) (λ _. Unit {0})
+  faultless l s = good o (subst (λ m. BySome o (Sound-framed (record { gap = r .gap; frames = take m (r .frames) })) (λ _. Unit {0})) e s)
+    where
+      good : (o : Option Denial) → BySome o (Sound-framed (framed-of r)) (λ _. Unit {0}) → BySome o (Good-framed r) (λ _. Unit {0})
+      good None s = record { some = omega (arith, s .classes .0, length-take (r .count) (r .frames)); few = h; whole = l; sound = s }
+      good (Some d) s = tt

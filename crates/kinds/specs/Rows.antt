@@ -30,7 +30,7 @@ abbrev pub counted-of : MissCountedRow → Counted
 counted-of r = record { gap = r .gap; budget = r .budget; ranks = take (r .misses + 1) (r .ranks) }
 
 -- its first fault: more than 7 misses, and then the rules of its kind
-abbrev pub counted-row-fault : MissCountedRow → Option Denial
+unfoldable pub counted-row-fault : MissCountedRow → Option Denial
 counted-row-fault r =
     orOther (when (ltb 7 (r .misses)) (denied Ranks 0 32)) (counted-fault 0 0 (r .gap) (r .budget) (take (r .misses + 1) (r .ranks)))
 
@@ -66,7 +66,7 @@ abbrev pub framed-of : FrameRow → Framed
 framed-of r = record { gap = r .gap; frames = take (r .count) (r .frames) }
 
 -- its first fault: more than 8 frames, and then the rules of its kind
-abbrev pub framed-row-fault : FrameRow → Option Denial
+unfoldable pub framed-row-fault : FrameRow → Option Denial
 framed-row-fault r =
     orOther (when (ltb 8 (r .count)) (denied Ranks 0 28)) (framed-fault 0 0 (r .gap) (take (r .count) (r .frames)))
 

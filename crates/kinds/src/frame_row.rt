@@ -1,14 +1,18 @@
 // What a frame row answers.
 ghost use mathlib.Core.Path.{_≡_};
 ghost use Prim.Native.Nat.{_+_, _*_, _/_, _≤_, _<_, _^_};
+ghost use Rattle.std.specs.Options.{Cases as BySome};
 ghost use Rattle.group.specs.Task.{terms-of};
 ghost use Rattle.kinds.specs.Cycle.{next-class, successive, largest};
-ghost use Rattle.kinds.specs.Rows.{Good-framed, framed-class, framed-row-task, row-above};
+ghost use Rattle.kinds.specs.Rows.{Good-framed, framed-class, framed-row-fault, framed-row-task, row-above};
 use crate::leaf::above;
 use crate::leaf::next_class;
 use crate::rows::FrameRow;
+use denial::Denial;
+use denial::Rule;
 use group::Outcome;
 use group::Terms;
+use plate::rules::frames_fault;
 
 // What so many jobs ask for: whole turns of a cycle of `count` frames, and the rest.
 fn turns_and_rest(jobs: u16, count: u16, turn: u32, rest: u32) -> u32
@@ -20,6 +24,18 @@ fn turns_and_rest(jobs: u16, count: u16, turn: u32, rest: u32) -> u32
 }
 
 impl FrameRow {
+    // The first fault, as of a row that stands alone from bit 0 on. A row without fault is good.
+    pub(crate) fn fault(&self) -> Option<Denial>
+        ensures value { λ r. ⌜ r ≡ framed-row-fault (now (self .entry)) ⌝ }
+        ensures good { λ r. ⌜ BySome r (Good-framed (now (self .entry))) (λ _. Unit {0}) ⌝ }
+    {
+        if self.count > 8 {
+            return Some(Rule::Ranks.denies(0, 28));
+        }
+        let count = self.count as usize;
+        frames_fault(self.gap, &self.frames[0..count])
+    }
+
     // The terms of a frame that there is.
     fn frame_terms(&self, class: u8) -> Terms
         requires { ⌜ Good-framed (now self) ⌝ ∗ ⌜ 1 ≤ class ⌝ ∗ ⌜ class ≤ now self .count ⌝ }
