@@ -8,6 +8,8 @@ mod framed;
 mod leaf;
 mod miss_counted;
 mod rows;
+#[cfg(test)]
+mod tests;
 
 pub use counted_table::MissCountedTable;
 pub use exact::counts_misses;
