@@ -1,13 +1,20 @@
 -- A table of rows of one kind, as a list of rows, of tasks and of positions.
-use mathlib.Core.Path.{_≡_, refl, sym, ap, _∙_}
+use mathlib.Core.Path.{_≡_, refl, sym, ap, subst, _∙_}
+use mathlib.Core.Bool.{cond}
 use mathlib.Core.Logic.{_⊎_, inl, inr, _≢_, ∥∥₁-elim}
 use mathlib.Core.List.{List, [], _∷_, _++_, map}
 use Prim.Native.Nat.{ℕ, _+_, _≤_, _<_, min}
 use native.Mathlib.Omega.{arith}
-use lib.ListN.{length, getD, take, set, length-take, length-set}
+use denote.Ref.{RefT, now}
+use lib.Dec.{ltb}
+use lib.ListN.{length, getD, take, set, length-take}
+use Rattle.std.specs.declared.option.Option.{Option}
+use Rattle.std.specs.declared.option.Option.the-variants.{Some, None}
+use Rattle.std.specs.Options.{Cases as BySome}
 use Rattle.std.specs.shelf.Lists.{All}
 use Rattle.std.proofs.shelf.Elements.{all-from-getD}
 use Rattle.std.proofs.shelf.Lists.{getD-map, getD-take, getD-past, set-past, length-map, getD-set-same, getD-set-other, take-more-set, map-push}
+use Rattle.std.proofs.shelf.Tests.{cases-lt, cond-below, cond-above}
 use Rattle.group.specs.declared.meaning.Outcome.{Outcome}
 use Rattle.group.specs.Task.{Task, Position, Lawful, at, place, no-task, after, settled}
 use Rattle.group.proofs.Lists.{take-set}
@@ -50,7 +57,7 @@ module _ {R X : Type 0} {good : R → Type 0} {classes : R → ℕ} {says : R �
   task-absent : (i : ℕ) → len ≤ i → at tasks i ≡ no-task
   task-absent i h = getD-past tasks i no-task (omega (arith, tasks-length))
 
-  pub found : (i : ℕ) → i < len → Row-at good classes says task told i (getD rows i d)
+  found : (i : ℕ) → i < len → Row-at good classes says task told i (getD rows i d)
   found i l = record {
     here = omega (arith, rows-length);
     stands = λ e. row-here i e l;
@@ -59,8 +66,14 @@ module _ {R X : Type 0} {good : R → Type 0} {classes : R → ℕ} {says : R �
     count = ap (λ t. length (t .classes)) (task-here i l) ∙ k .counted (getD rows i d) (good-at i l);
   }
 
-  pub missing : (i : ℕ) → len ≤ i → No-row-at task told i
+  missing : (i : ℕ) → len ≤ i → No-row-at task told i
   missing i h = record { past = omega (arith, rows-length); means = task-absent i h }
+
+  -- what stands in the array is a row of the list
+  pub looked-up : (i : ℕ) (o : Option (RefT R)) → BySome o (len ≤ i) (λ q. (i < len) × (now q ≡ getD rows i d)) →
+      BySome o (No-row-at task told i) (λ q. Row-at good classes says task told i (now q))
+  looked-up i None h = missing i h
+  looked-up i (Some q) h = subst (Row-at good classes says task told i) (sym (h .1)) (found i (h .0))
 
   -- what holds of what each good row says holds of each listed row
   pub all-told : (P : X → Type 0) → ((r : R) → good r → P (says r)) → All P told
@@ -86,13 +99,20 @@ module _ {R X : Type 0} {good : R → Type 0} {classes : R → ℕ} {says : R �
   pub lawfuls : (i : ℕ) → i < length tasks → Lawful (at tasks i)
   lawfuls = each-task Lawful (k .lawful)
 
-  -- the present class
-  pub class-here : (i : ℕ) → i < len → task (says (getD rows i d)) .class-at (getD places i 0) ≡ at tasks i .class-at (place (take len places) i)
-  class-here i l =
-      sym (ap (λ t. t .class-at (place (take len places) i)) (task-here i l) ∙ ap (task (says (getD rows i d)) .class-at) (getD-take len places i 0 l))
+  -- the present class, of a kind whose position is its class
+  pub class-now : ((r : R) (x : ℕ) → task (says r) .class-at x ≡ x) → (i : ℕ) →
+      cond (ltb i len) (getD places i 0) 0 ≡ at tasks i .class-at (place (take len places) i)
+  class-now same i = by (cases-lt i len)
+    where
+      at-here : i < len → getD places i 0 ≡ at tasks i .class-at (place (take len places) i)
+      at-here l =
+          sym (ap (λ t. t .class-at (place (take len places) i)) (task-here i l)
+          ∙ (same (getD rows i d) (place (take len places) i) ∙ getD-take len places i 0 l))
 
-  pub class-absent : (i : ℕ) → len ≤ i → 0 ≡ at tasks i .class-at (place (take len places) i)
-  class-absent i h = sym (ap (λ t. t .class-at (place (take len places) i)) (task-absent i h))
+      by : (i < len) ⊎ (len ≤ i) → cond (ltb i len) (getD places i 0) 0 ≡ at tasks i .class-at (place (take len places) i)
+      by (inl l) = sym (cond-below i len (getD places i 0) 0 l) ∙ at-here l
+      by (inr h) =
+          sym (cond-above i len (getD places i 0) 0 0 h refl) ∙ sym (ap (λ t. t .class-at (place (take len places) i)) (task-absent i h))
 
   -- a job that has ended
   pub settled-here : (i : ℕ) (o : Outcome) (y : ℕ) → i < len → y ≡ after (task (says (getD rows i d))) o (getD places i 0) →

@@ -1,13 +1,13 @@
 // The group of a frame table.
 ghost use mathlib.Core.Path.{_≡_};
 ghost use mathlib.Core.List.{[]};
-ghost use Prim.Native.Nat.{_+_, _≤_, _<_};
-ghost use lib.ListN.{length, getD, set, take};
+ghost use Prim.Native.Nat.{_<_};
+ghost use lib.ListN.{length};
 ghost use Rattle.std.specs.Options.{Cases as BySome};
 ghost use Rattle.std.specs.Results.{Cases};
 ghost use Rattle.plate.specs.Plans.{unless};
 ghost use Rattle.kinds.specs.Frames.{framed-task};
-ghost use Rattle.kinds.specs.Rows.{Good-framed, framed-classes, no-framed, framed-row-fault};
+ghost use Rattle.kinds.specs.Rows.{Good-framed, framed-row-fault};
 ghost use Rattle.kinds.specs.Tables.{No-row-at, add-fault};
 ghost use Rattle.kinds.specs.Listed.{framed-rows, framed-tasks, framed-places, Framed-row, Framed-added};
 use crate::frame_table::FrameTable;
@@ -38,22 +38,19 @@ impl FrameTable {
         }
     }
 
-    // How many rows it has.
+    // How many rows, and so tasks, it has.
     pub fn len(&self) -> u8
-        ensures { λ r. ⌜ r ≡ length (framed-rows (now (self .entry))) ⌝ }
+        ensures rows { λ r. ⌜ r ≡ length (framed-rows (now (self .entry))) ⌝ }
+        ensures tasks { λ r. ⌜ r ≡ length (framed-tasks (now (self .entry))) ⌝ }
     {
-        self.len
+        self.used()
     }
 
     // The row of a task, if there is one.
     pub fn row(&self, task: u16) -> Option<&FrameRow>
         ensures { λ r. ⌜ BySome r (No-row-at framed-task (framed-rows (now (self .entry))) task) (λ q. Framed-row (now (self .entry)) task (now q)) ⌝ }
     {
-        if task < self.len as u16 {
-            Some(&self.rows[task as usize])
-        } else {
-            None
-        }
+        self.slot(task)
     }
 
     // One row more, at frame 1.
@@ -81,17 +78,6 @@ impl FrameTable {
         }
         self.push(row);
         Ok(())
-    }
-
-    // Puts a task at a frame.
-    fn put(&mut self, task: usize, class: u8)
-        requires here { ⌜ task < now self .len ⌝ }
-        requires low { ⌜ 1 ≤ class ⌝ }
-        requires high { ⌜ class ≤ framed-classes (getD (now self .rows) task no-framed) ⌝ }
-        ensures rows { λ _. ⌜ framed-rows (now (self .exit)) ≡ framed-rows (now (self .entry)) ⌝ }
-        ensures places { λ _. ⌜ framed-places (now (self .exit)) ≡ take (now (self .entry) .len) (set (now (self .entry) .places) task class) ⌝ }
-    {
-        self.places[task] = class;
     }
 }
 
@@ -126,11 +112,7 @@ pub impl Group for FrameTable as FramedGroup {
     }
 
     fn present_class(&self, task: u16) -> u8 {
-        if task < self.len as u16 {
-            self.places[task as usize]
-        } else {
-            0
-        }
+        self.place(task)
     }
 
     fn demand(&self, task: u16, jobs: u16, rank: u8) -> u32 {
@@ -145,7 +127,7 @@ pub impl Group for FrameTable as FramedGroup {
             let i = task as usize;
             let row = self.rows[i];
             let next = row.after(self.places[i], outcome);
-            self.put(i, next);
+            self.put(task, next);
         }
     }
 }

@@ -1,13 +1,13 @@
 // The group of a miss-counted table.
 ghost use mathlib.Core.Path.{_≡_};
 ghost use mathlib.Core.List.{[]};
-ghost use Prim.Native.Nat.{_+_, _≤_, _<_};
-ghost use lib.ListN.{length, getD, set, take};
+ghost use Prim.Native.Nat.{_<_};
+ghost use lib.ListN.{length};
 ghost use Rattle.std.specs.Options.{Cases as BySome};
 ghost use Rattle.std.specs.Results.{Cases};
 ghost use Rattle.plate.specs.Plans.{unless};
 ghost use Rattle.kinds.specs.MissCounted.{counted-task};
-ghost use Rattle.kinds.specs.Rows.{Good-counted, counted-classes, no-counted, counted-row-fault};
+ghost use Rattle.kinds.specs.Rows.{Good-counted, counted-row-fault};
 ghost use Rattle.kinds.specs.Tables.{No-row-at, add-fault};
 ghost use Rattle.kinds.specs.Listed.{counted-rows, counted-tasks, counted-places, Counted-row, Counted-added};
 use crate::counted_table::MissCountedTable;
@@ -38,22 +38,19 @@ impl MissCountedTable {
         }
     }
 
-    // How many rows it has.
+    // How many rows, and so tasks, it has.
     pub fn len(&self) -> u8
-        ensures { λ r. ⌜ r ≡ length (counted-rows (now (self .entry))) ⌝ }
+        ensures rows { λ r. ⌜ r ≡ length (counted-rows (now (self .entry))) ⌝ }
+        ensures tasks { λ r. ⌜ r ≡ length (counted-tasks (now (self .entry))) ⌝ }
     {
-        self.len
+        self.used()
     }
 
     // The row of a task, if there is one.
     pub fn row(&self, task: u16) -> Option<&MissCountedRow>
         ensures { λ r. ⌜ BySome r (No-row-at counted-task (counted-rows (now (self .entry))) task) (λ q. Counted-row (now (self .entry)) task (now q)) ⌝ }
     {
-        if task < self.len as u16 {
-            Some(&self.rows[task as usize])
-        } else {
-            None
-        }
+        self.slot(task)
     }
 
     // One row more, at class 1.
@@ -81,17 +78,6 @@ impl MissCountedTable {
         }
         self.push(row);
         Ok(())
-    }
-
-    // Puts a task at a class.
-    fn put(&mut self, task: usize, class: u8)
-        requires here { ⌜ task < now self .len ⌝ }
-        requires low { ⌜ 1 ≤ class ⌝ }
-        requires high { ⌜ class ≤ counted-classes (getD (now self .rows) task no-counted) ⌝ }
-        ensures rows { λ _. ⌜ counted-rows (now (self .exit)) ≡ counted-rows (now (self .entry)) ⌝ }
-        ensures places { λ _. ⌜ counted-places (now (self .exit)) ≡ take (now (self .entry) .len) (set (now (self .entry) .places) task class) ⌝ }
-    {
-        self.places[task] = class;
     }
 }
 
@@ -126,11 +112,7 @@ pub impl Group for MissCountedTable as MissCountedGroup {
     }
 
     fn present_class(&self, task: u16) -> u8 {
-        if task < self.len as u16 {
-            self.places[task as usize]
-        } else {
-            0
-        }
+        self.place(task)
     }
 
     fn demand(&self, task: u16, jobs: u16, rank: u8) -> u32 {
@@ -145,7 +127,7 @@ pub impl Group for MissCountedTable as MissCountedGroup {
             let i = task as usize;
             let row = self.rows[i];
             let next = row.after(self.places[i], outcome);
-            self.put(i, next);
+            self.put(task, next);
         }
     }
 }

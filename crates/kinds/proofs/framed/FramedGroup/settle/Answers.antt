@@ -1,9 +1,10 @@
 use mathlib.Core.List.{map}
-use mathlib.Core.Path.{refl, ap, _∙_}
+use mathlib.Core.Path.{refl, _∙_}
 use native.Mathlib.Omega.{arith}
-use lib.ListN.{getD}
+use lib.ListN.{getD, take}
 use Rattle.kinds.specs.Frames.{framed-task}
-use Rattle.kinds.specs.Rows.{no-framed}
+use Rattle.kinds.specs.Rows.{framed-of, no-framed}
+use Rattle.kinds.specs.Tables.{listed}
 use Rattle.kinds.proofs.FramedRows.{framed-kind, row-after}
 use Rattle.kinds.proofs.Tables.{good-at, settled-here, settled-absent}
 use Rattle.kinds.proofs.framed.FramedGroup.settle.Needs as need
@@ -11,12 +12,12 @@ use Rattle.kinds.proofs.framed.FramedGroup.settle.Needs as need
 pub returns-then-task-self : need.returns-then-task-self
 returns-then-task-self c =
     let t = c .args .self .now in
-    let row = getD (t .rows) (c .args .task) no-framed in
+    let put = c .put .ensures in
     let good = good-at framed-kind no-framed (t .rows) (t .places) (t .len) (t .fits) (t .keeps) (c .args .task) (omega arith) in
-    let next = c .after-next .ensures ∙ row-after row good (c .args .outcome) (getD (t .places) (c .args .task) 0) in
+    let next = c .after-next .ensures ∙ row-after (getD (t .rows) (c .args .task) no-framed) good (c .args .outcome) (getD (t .places) (c .args .task) 0) in
     record {
-      tasks = ap (map framed-task) (c .put .ensures .rows);
-      places = c .put .ensures .places
+      tasks = λ z. map framed-task (listed framed-of (put .rows z) (put .len z));
+      places = (λ z. take (put .len z) (put .places z))
           ∙ settled-here framed-kind no-framed (t .rows) (t .places) (t .len) (t .fits) (t .keeps) (c .args .task) (c .args .outcome) (c .after-next .result) (omega arith) next;
     }
 
