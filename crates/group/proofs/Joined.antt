@@ -2,14 +2,15 @@
 use mathlib.Core.Path.{_≡_, refl, sym, ap, subst, _∙_}
 use mathlib.Core.Logic.{_⊎_, inl, inr}
 use mathlib.Core.List.{List, [], _∷_, _++_}
-use Prim.Native.Nat.{ℕ, zero, suc, _+_, _≤_, _<_, _-_, min}
+use Prim.Native.Nat.{ℕ, _+_, _≤_, _<_, _-_, min}
 use native.Mathlib.Omega.{arith}
 use lib.ListN.{length, getD, take, set, length-take, length-append}
 use Rattle.std.proofs.shelf.Lists.{getD-take, getD-past, set-past, getD-append-left, getD-append-right, set-append-left, set-append-right}
+use Rattle.std.proofs.shelf.Tests.{cases-lt, lt-ltb, le-ltb}
 use Rattle.group.specs.declared.meaning.Outcome.{Outcome}
 use Rattle.group.specs.Task.{Task, Position, Lawful, at, no-task, after, settled, place}
 use Rattle.group.specs.declared.part.Part.the-variants.{First, Second, Absent}
-use Rattle.group.specs.Joined.{Stands}
+use Rattle.group.specs.Joined.{part-of, Stands}
 use Rattle.group.proofs.Lists.{take-set}
 
 pub first-of : {A : Type 0} (n : ℕ) (xs ys : List A) (i : ℕ) (d : A) → i < length xs → i < n → getD (take n (xs ++ ys)) i d ≡ getD xs i d
@@ -50,38 +51,46 @@ module _ (n : ℕ) (ta tb : List Task) (pa pb : List ℕ) (same : length pa ≡ 
   each P a b i h =
       let l : i < n = omega (arith, joint-length n ta tb) in
       let m : i < length ta + length tb = omega (arith, joint-length n ta tb) in
-      elim (split i (length ta)) [
+      elim (cases-lt i (length ta)) [
         | inl f ↦
             let here : i < length pa = omega arith in
             rw (first-of n ta tb i no-task f l, first-of n pa pb i 0 here l) (a i f)
         | inr s ↦
             rw (second-of n ta tb (length ta) i no-task refl s l, second-of n pa pb (length ta) i 0 same s l) (b (i - length ta) (omega arith))
       ]
-    where
-      split : (i k : ℕ) → (i < k) ⊎ (k ≤ i)
-      split i k = grind arith
 
 pub settles-absent : (n : ℕ) (ts : List Task) (ps : List ℕ) (i : ℕ) (o : Outcome) → n ≤ i → take n ps ≡ settled ts (take n ps) i o
 settles-absent n ts ps i o h = sym (set-past (take n ps) i (after (at ts i) o (place (take n ps) i)) (omega (arith, length-take n ps)))
 
 module _ (ta tb : List Task) (pa pb : List ℕ) (same : length pa ≡ length ta) where
-  pub stands-first : (i : ℕ) → i < length ta → i < 65535 → Stands ta tb pa pb i (First i)
+  stands-first : (i : ℕ) → i < length ta → i < 65535 → Stands ta tb pa pb i (First i)
   stands-first i h l = record {
     tasks = first-of 65535 ta tb i no-task h l;
     places = first-of 65535 pa pb i 0 (omega arith) l;
     moves = λ o. settles-first 65535 ta tb pa pb same i o h l;
   }
 
-  pub stands-second : (k i : ℕ) → length ta ≡ k → k ≤ i → i < 65535 → Stands ta tb pa pb i (Second (i - k))
+  stands-second : (k i : ℕ) → length ta ≡ k → k ≤ i → i < 65535 → Stands ta tb pa pb i (Second (i - k))
   stands-second k i e h l = record {
     tasks = second-of 65535 ta tb k i no-task e h l;
     places = second-of 65535 pa pb k i 0 (same ∙ e) h l;
     moves = λ o. settles-second 65535 ta tb pa pb same k i o e h l;
   }
 
-  pub stands-absent : (i : ℕ) → 65535 ≤ i → Stands ta tb pa pb i Absent
+  stands-absent : (i : ℕ) → 65535 ≤ i → Stands ta tb pa pb i Absent
   stands-absent i h = record {
     tasks = absent-of 65535 (ta ++ tb) i no-task h;
     places = absent-of 65535 (pa ++ pb) i 0 h;
     moves = λ o. settles-absent 65535 (take 65535 (ta ++ tb)) (pa ++ pb) i o h;
   }
+
+  pub stands : (k i : ℕ) → length ta ≡ k → k ≤ 65535 → Stands ta tb pa pb i (part-of k i)
+  stands k i e few =
+      elim (cases-lt i k) [
+        | inl h ↦ rw (lt-ltb i k h) (stands-first i (omega arith) (omega arith))
+        | inr h ↦
+            elim (cases-lt i 65535) [
+              | inl l ↦ rw (le-ltb i k h, lt-ltb i 65535 l) (stands-second k i e h l)
+              | inr l ↦ rw (le-ltb i k h, le-ltb i 65535 l) (stands-absent i l)
+            ]
+      ]

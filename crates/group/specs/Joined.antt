@@ -1,7 +1,9 @@
 -- Two groups as one: the first list and then the second, ended at 65,535. Assumes nothing.
 use mathlib.Core.Path.{_≡_}
+use mathlib.Core.Bool.{cond}
 use mathlib.Core.List.{List, _++_}
-use Prim.Native.Nat.{ℕ}
+use Prim.Native.Nat.{ℕ, _-_}
+use lib.Dec.{ltb}
 use lib.ListN.{take, getD}
 use Rattle.group.specs.declared.part.Part.{Part}
 use Rattle.group.specs.declared.part.Part.the-variants.{First, Second, Absent}
@@ -11,6 +13,10 @@ use Rattle.group.specs.Task.{Task, at, place, no-task, settled}
 -- two lists as one
 abbrev pub joint : {X : Type 0} → List X → List X → List X
 joint xs ys = take 65535 (xs ++ ys)
+
+-- where a task stands, if the first list has so many
+abbrev pub part-of : (before task : ℕ) → Part
+part-of before task = cond (ltb task before) (First task) (cond (ltb task 65535) (Second (task - before)) Absent)
 
 -- what stands in a part
 abbrev pub picked : {X : Type 0} → Part → List X → List X → X → X

@@ -1,5 +1,7 @@
 // Two groups as one: the first list and then the second, ended at 65,535 tasks.
-ghost use Rattle.group.specs.Joined.{joint, Stands};
+ghost use mathlib.Core.Path.{_≡_};
+ghost use Prim.Native.Nat.{_+_, min};
+ghost use Rattle.group.specs.Joined.{joint, part-of, Stands};
 use crate::group::Group;
 use crate::meaning::Outcome;
 use crate::meaning::Terms;
@@ -15,19 +17,32 @@ pub struct Join<A, B> {
     pub second: B,
 }
 
+// Where a task stands, if the first group has `before` tasks.
+fn split(before: u16, task: u16) -> Part
+    ensures { λ r. ⌜ r ≡ part-of before task ⌝ }
+{
+    if task < before {
+        Part::First(task)
+    } else if task < MOST {
+        Part::Second(task - before)
+    } else {
+        Part::Absent
+    }
+}
+
+// How many tasks two groups have together.
+fn together(first: u16, second: u16) -> u16
+    ensures { λ r. ⌜ r ≡ min 65535 (first + second) ⌝ }
+{
+    first.saturating_add(second)
+}
+
 impl<A: Group, B: Group> Join<A, B> {
     // Where a task of the joint list stands.
     fn part(&self, task: u16) -> Part
         ensures { λ r. ⌜ Stands (A·Group .tasks (now (self .entry) .first)) (B·Group .tasks (now (self .entry) .second)) (A·Group .places (now (self .entry) .first)) (B·Group .places (now (self .entry) .second)) task r ⌝ }
     {
-        let before = self.first.count();
-        if task < before {
-            Part::First(task)
-        } else if task < MOST {
-            Part::Second(task - before)
-        } else {
-            Part::Absent
-        }
+        split(self.first.count(), task)
     }
 }
 
@@ -37,7 +52,7 @@ pub impl<A: Group, B: Group> Group for Join<A, B> as JoinGroup {
     ghost places = { λ j. joint (A·Group .places (j .first)) (B·Group .places (j .second)) };
 
     fn count(&self) -> u16 {
-        self.first.count().saturating_add(self.second.count())
+        together(self.first.count(), self.second.count())
     }
 
     fn gap(&self, task: u16) -> u16 {
