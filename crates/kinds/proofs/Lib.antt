@@ -1,0 +1,13 @@
+pub mod Cycle
+pub mod Cover
+pub mod Most
+pub mod Ranks
+pub mod CountedLaws
+pub mod FramedLaws
+pub mod Attained
+pub mod Counting
+pub mod Props
+pub mod Tables
+pub mod CountedRows
+pub mod FramedRows
+pub mod Listed
