@@ -1,10 +1,11 @@
 // Compares the plate read back from a box with the order: prints the rows of each, and whether they are the same.
 use denial::Denial;
 use denial::DenialDisplay;
-use plate::accept::accept;
-use plate::frame::nth_frame;
-use plate::reader::Reader;
-use plate::row::Row;
+use kinds::FrameRow;
+use kinds::FrameTable;
+use kinds::MissCountedRow;
+use kinds::MissCountedTable;
+use plan::load::load;
 use plate::same::first_difference;
 use plate::same::same;
 use std::env;
@@ -22,42 +23,35 @@ fn print_class(
     println!(rt, "  {name} {number} rank {rank} budget {budget}")
 }
 
-fn print_frames(rt: &impl Print, frames: &[u8]) -> io::Result<()> {
-    for i in 0..8u16 {
-        if let Some(frame) = nth_frame(frames, i) {
-            print_class(rt, "frame", usize::from(i) + 1, frame.rank, frame.budget)?;
-        }
+fn print_counted(rt: &impl Print, task: u16, row: &MissCountedRow) -> io::Result<()> {
+    let gap = row.gap;
+    println!(rt, "task {task} miss-counted gap {gap}")?;
+    for (i, rank) in row.ranks.iter().take(usize::from(row.misses) + 1).enumerate() {
+        print_class(rt, "class", i.saturating_add(1), *rank, row.budget)?;
     }
     Ok(())
 }
 
-fn print_row(rt: &impl Print, task: u16, row: Row) -> io::Result<()> {
-    match row {
-        Row::MissCounted {
-            gap,
-            budget,
-            ranks,
-            ..
-        } => {
-            println!(rt, "task {task} miss-counted gap {gap}")?;
-            for (i, rank) in ranks.iter().enumerate() {
-                print_class(rt, "class", i.saturating_add(1), *rank, budget)?;
-            }
-            Ok(())
-        }
-        Row::Frames { gap, frames, .. } => {
-            println!(rt, "task {task} frames gap {gap}")?;
-            print_frames(rt, frames)
-        }
+fn print_frames(rt: &impl Print, task: u16, row: &FrameRow) -> io::Result<()> {
+    let gap = row.gap;
+    println!(rt, "task {task} frames gap {gap}")?;
+    for (i, frame) in row.frames.iter().take(usize::from(row.count)).enumerate() {
+        print_class(rt, "frame", i.saturating_add(1), frame.rank, frame.budget)?;
     }
+    Ok(())
 }
 
-fn print_rows(rt: &impl Print, plate: &[u8]) -> io::Result<()> {
-    let mut reader = Reader::new(plate);
-    for task in 0..32 {
-        match reader.next_row() {
-            Ok(Some(row)) => print_row(rt, task, row)?,
-            _ => break,
+// The rows of both tables, numbered as tasks.
+fn print_tables(rt: &impl Print, counted: &MissCountedTable, frames: &FrameTable) -> io::Result<()> {
+    let before = u16::from(counted.len());
+    for i in 0..before {
+        if let Some(row) = counted.row(i) {
+            print_counted(rt, i, row)?;
+        }
+    }
+    for i in 0..u16::from(frames.len()) {
+        if let Some(row) = frames.row(i) {
+            print_frames(rt, before.saturating_add(i), row)?;
         }
     }
     Ok(())
@@ -67,8 +61,10 @@ fn print_rows(rt: &impl Print, plate: &[u8]) -> io::Result<()> {
 fn print_plate(rt: &impl Print, name: &str, plate: &[u8]) -> io::Result<()> {
     let bytes = plate.len();
     println!(rt, "{name}: {bytes} bytes")?;
-    match accept(plate) {
-        Ok(_) => print_rows(rt, plate),
+    let mut counted = MissCountedTable::new();
+    let mut frames = FrameTable::new();
+    match load(plate, &mut counted, &mut frames) {
+        Ok(()) => print_tables(rt, &counted, &frames),
         Err(denial) => println!(rt, "{denial}"),
     }
 }

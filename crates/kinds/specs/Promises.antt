@@ -33,15 +33,3 @@ abbrev pub Tables-sound : Type 0
 Tables-sound =
     ((t : MissCountedTable) → All Sound-counted (counted-rows t) × (length (counted-rows t) ≤ 16))
     × ((t : FrameTable) → All Sound-framed (framed-rows t) × (length (framed-rows t) ≤ 16))
-
--- the demands of 1 to 7 jobs where three misses are tolerated, two of the four classes count, and the budget is 1
-abbrev pub Counted-figures : Type 0
-Counted-figures =
-    map (λ N. counted-task (record { gap = 9; budget = 1; ranks = 1 ∷ (2 ∷ (7 ∷ (8 ∷ []))) }) .demand N 5) (1 ∷ (2 ∷ (3 ∷ (4 ∷ (5 ∷ (6 ∷ (7 ∷ [])))))))
-    ≡ 1 ∷ (2 ∷ (2 ∷ (2 ∷ (3 ∷ (4 ∷ (4 ∷ []))))))
-
--- the demands of 1 to 5 jobs of frames with budgets 5, 1 and 1 that all count
-abbrev pub Framed-figures : Type 0
-Framed-figures =
-    map (λ N. framed-task (record { gap = 9; frames = record { budget = 5; rank = 7 } ∷ (record { budget = 1; rank = 6 } ∷ (record { budget = 1; rank = 9 } ∷ [])) }) .demand N 5) (1 ∷ (2 ∷ (3 ∷ (4 ∷ (5 ∷ [])))))
-    ≡ 5 ∷ (6 ∷ (7 ∷ (12 ∷ (13 ∷ []))))

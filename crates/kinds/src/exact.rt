@@ -1,5 +1,5 @@
 // What holds of the two kinds, beyond the laws of a group.
-ghost use Rattle.kinds.specs.Promises.{Counted-attained, Framed-attained, Table-counts, One-frame-counts, Tables-sound, Counted-figures, Framed-figures};
+ghost use Rattle.kinds.specs.Promises.{Counted-attained, Framed-attained, Table-counts, One-frame-counts, Tables-sound};
 
 // No smaller demand would cover: for each number of jobs and each rank some succession asks for all of it.
 pub fn demands_are_attained()
@@ -16,10 +16,4 @@ pub fn counts_misses()
 // No table ever holds a row that breaks the rules of its kind, or more than 16 rows.
 pub fn tables_are_sound()
     ensures { λ _. ⌜ Tables-sound ⌝ }
-{}
-
-// The figures to check by: three tolerated misses with two classes above the rank; frames of 5, 1 and 1.
-pub fn figures_hold()
-    ensures counted { λ _. ⌜ Counted-figures ⌝ }
-    ensures framed { λ _. ⌜ Framed-figures ⌝ }
 {}

@@ -14,7 +14,6 @@ mod tests;
 pub use counted_table::MissCountedTable;
 pub use exact::counts_misses;
 pub use exact::demands_are_attained;
-pub use exact::figures_hold;
 pub use exact::tables_are_sound;
 pub use frame_table::FrameTable;
 pub use framed::FramedGroup;
