@@ -26,7 +26,10 @@ fn print_class(
 fn print_counted(rt: &impl Print, task: u16, row: &MissCountedRow) -> io::Result<()> {
     let gap = row.gap;
     println!(rt, "task {task} miss-counted gap {gap}")?;
-    for (i, rank) in row.ranks.iter().take(usize::from(row.misses) + 1).enumerate() {
+    for (i, rank) in row.ranks
+        .iter()
+        .take(usize::from(row.misses) + 1)
+        .enumerate() {
         print_class(rt, "class", i.saturating_add(1), *rank, row.budget)?;
     }
     Ok(())
@@ -42,7 +45,11 @@ fn print_frames(rt: &impl Print, task: u16, row: &FrameRow) -> io::Result<()> {
 }
 
 // The rows of both tables, numbered as tasks.
-fn print_tables(rt: &impl Print, counted: &MissCountedTable, frames: &FrameTable) -> io::Result<()> {
+fn print_tables(
+    rt: &impl Print,
+    counted: &MissCountedTable,
+    frames: &FrameTable,
+) -> io::Result<()> {
     let before = u16::from(counted.len());
     for i in 0..before {
         if let Some(row) = counted.row(i) {

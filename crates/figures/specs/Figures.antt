@@ -14,7 +14,7 @@ four-classes = record { gap = 9; budget = 1; ranks = 1 ∷ (2 ∷ (7 ∷ (8 ∷ 
 abbrev pub three-frames : Framed
 three-frames = record {
   gap = 9;
-  frames = record { budget = 5; rank = 7 } ∷ (record { budget = 1; rank = 6 } ∷ (record { budget = 1; rank = 9 } ∷ []))
+  frames = record { budget = 5; rank = 7 } ∷ (record { budget = 1; rank = 6 } ∷ (record { budget = 1; rank = 9 } ∷ []));
 }
 
 pub record Figures : Type 0 where

@@ -32,7 +32,7 @@ filled bs s t (counted gap budget ranks place) cs cs′ fs fs′ took added =
       rows = rw (added .0, added .1) (sym (after-counted cs fs c (rest-of bs t)) ∙ ap (after-rows cs fs) (sym (took .0)));
       counted = rw (added .0, took .1) (omega (arith, length-push cs c));
       framed = rw (added .1, took .2) refl;
-      place = took .3
+      place = took .3;
     }
 filled bs s t (framed gap bytes place) cs cs′ fs fs′ took added =
     let f : Framed = record { gap = gap; frames = frames-of bytes } in
@@ -40,7 +40,7 @@ filled bs s t (framed gap bytes place) cs cs′ fs fs′ took added =
       rows = rw (added .0, added .1) (sym (after-framed cs fs _ (rest-of bs t)) ∙ ap (after-rows cs fs) (sym (took .0)));
       counted = rw (added .0, took .1) refl;
       framed = rw (added .1, took .2) (omega (arith, length-push fs f));
-      place = took .3
+      place = took .3;
     }
 
 -- the rows to come end in a fault

@@ -79,7 +79,7 @@ pub as-counted : (h : Handed) (gap budget : ℕ) (ranks : List ℕ) (place : ℕ
 as-counted h gap budget ranks place e = record {
   sound = λ s. subst Sound-row e s;
   room = λ m n s. subst (λ (x : Handed). Room-for x m n) e s;
-  added = λ cs cs′ fs p. subst (λ (x : Handed). Added x cs cs′ fs fs) (sym e) (p, refl)
+  added = λ cs cs′ fs p. subst (λ (x : Handed). Added x cs cs′ fs fs) (sym e) (p, refl);
 }
 
 pub record As-framed (h : Handed) (gap : ℕ) (bytes : List ℕ) : Type 0 where
@@ -91,5 +91,5 @@ pub as-framed : (h : Handed) (gap : ℕ) (bytes : List ℕ) (place : ℕ) → h 
 as-framed h gap bytes place e = record {
   sound = λ s. subst Sound-row e s;
   room = λ m n s. subst (λ (x : Handed). Room-for x m n) e s;
-  added = λ cs fs fs′ p. subst (λ (x : Handed). Added x cs cs fs fs′) (sym e) (refl, p)
+  added = λ cs fs fs′ p. subst (λ (x : Handed). Added x cs cs fs fs′) (sym e) (refl, p);
 }

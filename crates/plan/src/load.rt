@@ -1,6 +1,6 @@
 // Loading a plate into two tables.
 ghost use mathlib.Core.Path.{_≡_};
-ghost use Prim.Native.Nat.{_<_, _≤_};
+ghost use Prim.Native.Nat.{_-_, _<_, _≤_};
 ghost use lib.ListN.{length};
 ghost use Rattle.std.specs.Results.{Cases};
 ghost use Rattle.std.specs.declared.result.Result.the-variants.{Ok, Err};
@@ -21,6 +21,19 @@ use plate::frame::unpack;
 use plate::reader::Reader;
 use plate::row::Row;
 
+// The row of so many classes.
+fn with_classes(gap: u16, budget: u16, classes: u8, ranks: [u8; 8]) -> MissCountedRow
+    requires { ⌜ 1 ≤ classes ⌝ }
+    ensures { λ r. ⌜ r ≡ record { gap = gap; budget = budget; misses = classes - 1; ranks = ranks } ⌝ }
+{
+    MissCountedRow {
+        gap,
+        budget,
+        misses: classes - 1,
+        ranks,
+    }
+}
+
 // The row of a table, from what a plate says.
 fn counted_row(gap: u16, budget: u16, ranks: &[u8]) -> MissCountedRow
     requires { ⌜ 1 ≤ length (now ranks) ⌝ ∗ ⌜ length (now ranks) ≤ 8 ⌝ }
@@ -30,12 +43,7 @@ fn counted_row(gap: u16, budget: u16, ranks: &[u8]) -> MissCountedRow
     let mut all = [0; 8];
     let n = ranks.len();
     all[0..n].copy_from_slice(ranks);
-    MissCountedRow {
-        gap,
-        budget,
-        misses: n as u8 - 1,
-        ranks: all,
-    }
+    with_classes(gap, budget, n as u8, all)
 }
 
 fn frame_row(gap: u16, bytes: &[u8]) -> FrameRow
@@ -60,25 +68,36 @@ fn take_row(row: Row, counted: &mut MissCountedTable, frames: &mut FrameTable)
 {
     match row {
         Row::MissCounted {
-            gap, budget, ranks, ..
+            gap,
+            budget,
+            ranks,
+            ..
         } => {
             let _ = counted.add(counted_row(gap, budget, ranks));
         }
-        Row::Frames { gap, frames: bytes, .. } => {
+        Row::Frames {
+            gap,
+            frames: bytes,
+            ..
+        } => {
             let _ = frames.add(frame_row(gap, bytes));
         }
     }
 }
 
 // Takes in all the rows to come.
-fn fill(reader: &mut Reader, counted: &mut MissCountedTable, frames: &mut FrameTable) -> Result<(), Denial>
+fn fill(
+    reader: &mut Reader,
+    counted: &mut MissCountedTable,
+    frames: &mut FrameTable,
+) -> Result<(), Denial>
     requires opened { ⌜ 0 < state (now reader) .place ⌝ }
     requires room { ⌜ Room (state (now reader)) (now counted) (now frames) ⌝ }
     requires first { ⌜ At-first (now counted) (now frames) ⌝ }
     ensures { λ r. ⌜ Cases r
         (λ _. (after-rows (counted-rows (now (counted .entry))) (framed-rows (now (frames .entry)))
-            (rest-of (plate-of (now (reader .entry))) (state (now (reader .entry)))) ≡ Ok (plan-of (now (counted .exit)) (now (frames .exit))))
-            × At-first (now (counted .exit)) (now (frames .exit)))
+        (rest-of (plate-of (now (reader .entry))) (state (now (reader .entry)))) ≡ Ok (plan-of (now (counted .exit)) (now (frames .exit))))
+        × At-first (now (counted .exit)) (now (frames .exit)))
         (λ d. rest-of (plate-of (now (reader .entry))) (state (now (reader .entry))) ≡ Err d) ⌝ }
 {
     while let Some(row) = reader.next_row()? {
@@ -88,7 +107,11 @@ fn fill(reader: &mut Reader, counted: &mut MissCountedTable, frames: &mut FrameT
 }
 
 // Loads a plate into two tables, each row at its first position. A refused plate leaves both tables as they were.
-pub fn load(plate: &[u8], counted: &mut MissCountedTable, frames: &mut FrameTable) -> Result<(), Denial>
+pub fn load(
+    plate: &[u8],
+    counted: &mut MissCountedTable,
+    frames: &mut FrameTable,
+) -> Result<(), Denial>
     ensures { λ r. ⌜ Cases r (λ _. Loaded (now (plate .entry)) (now (counted .exit)) (now (frames .exit)))
         (λ d. Refused (now (plate .entry)) d × (now (counted .exit) ≡ now (counted .entry)) × (now (frames .exit) ≡ now (frames .entry))) ⌝ }
 {

@@ -125,7 +125,11 @@ fn refusal(rows: u8, size: usize, len: usize) -> Option<Denial>
 
 // Saves two tables as a plate in front of a buffer, and gives its length; the bytes after it stay. What was saved is read
 // as the same rows.
-pub fn save(counted: &MissCountedTable, frames: &FrameTable, out: &mut [u8]) -> Result<usize, Denial>
+pub fn save(
+    counted: &MissCountedTable,
+    frames: &FrameTable,
+    out: &mut [u8],
+) -> Result<usize, Denial>
     ensures result { λ r. ⌜ r ≡ unless (save-fault (plan-of (now (counted .entry)) (now (frames .entry))) (length (now (out .entry))))
         (length (encode (plan-of (now (counted .entry)) (now (frames .entry))))) ⌝ }
     ensures out { λ r. ⌜ now (out .exit) ≡ left r (now (out .entry)) 0 (encode (plan-of (now (counted .entry)) (now (frames .entry)))) ⌝ }

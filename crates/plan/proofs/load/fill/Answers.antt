@@ -25,8 +25,7 @@ loop-row-again c =
     let told = c .in-Continue-row .ensures tt in
     let is = rw (c .in-Some .is) at (told .result) in
     let took = reads-row (plate-of r) (state r) (state (c .next-row .last .self)) _ (c .loop-row .inv .1) is (told .after) in
-    let all = filled (plate-of r) (state r) _ _ _ _ _ _ took (c .take-row .ensures .rows) in
-    (
+    let all = filled (plate-of r) (state r) _ _ _ _ _ _ took (c .take-row .ensures .rows) in (
       told .plate ∙ c .loop-row .inv .0,
       all .place,
       (omega (arith, all .counted, c .loop-row .inv .2), omega (arith, all .framed, c .loop-row .inv .2)),

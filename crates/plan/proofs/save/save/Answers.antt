@@ -44,7 +44,7 @@ returns c =
       few-counted = few;
       few-framed = few-frames;
       counted = counted-sound (c .args .counted .now);
-      framed = framed-sound (c .args .frames .now)
+      framed = framed-sound (c .args .frames .now);
     } in
     record {
       result = ap Ok size ∙ ap (λ o. unless o (length (encode plan))) (sym none);
@@ -52,5 +52,5 @@ returns c =
           plan-written (c .args .out .now) _ _ _ cs fs _ _ _ (c .write-header .result) (c .len-3 .ensures .rows) (c .len-4 .ensures .rows) few few-frames (fits .0)
           (fits .1) (c .write-header .ensures .result) (c .write-header .ensures .out) (c .write-all-at .ensures .end)
           (c .write-all-at .ensures .out) (c .write-all .ensures .out);
-      back = written-is-read plan sound
+      back = written-is-read plan sound;
     }

@@ -19,5 +19,5 @@ returns g c =
     let few = g .T·Rows·met .few t in
     record {
       value = c .loop-i .inv .0 ∙ ap length (concat-all (g .T·Rows .bytes t) (c .loop-i .i) (omega arith));
-      small = omega arith
+      small = omega arith;
     }

@@ -30,11 +30,10 @@ pub loop-i-again : need.loop-i-again
 loop-i-again g c =
     let xss = g .T·Rows .bytes (c .args .rows .now) in
     let i = c .loop-i .i in
-    let more = concat-length xss i (omega arith) in
-    (
+    let more = concat-length xss i (omega arith) in (
       omega arith,
       put-more (c .args .out .now) (c .loop-i .out) _ xss (c .args .at) i (c .loop-i .end) (omega arith) (c .pre)
-      (c .loop-i .inv .0) (c .loop-i .inv .1) (c .write-row .ensures),
+          (c .loop-i .inv .0) (c .loop-i .inv .1) (c .write-row .ensures),
     )
 
 pub returns : need.returns
@@ -43,5 +42,5 @@ returns g c =
     let all = concat-all xss (c .loop-i .i) (omega arith) in
     record {
       end = c .loop-i .inv .0 ∙ ap (λ t. c .args .at + length t) all;
-      out = c .loop-i .inv .1 ∙ ap (put-at (c .args .out .now) (c .args .at)) all
+      out = c .loop-i .inv .1 ∙ ap (put-at (c .args .out .now) (c .args .at)) all;
     }
