@@ -122,7 +122,7 @@ clean row p gap frames e =
       first-all (λ i. no-rank (frame-at frames i .rank)) (length frames) (mapped-none _ _ (c .1)),
     )
 
-faultless : (row p : ℕ) (f : Framed) → Sound-framed f → framed-fault row p (f .gap) (f .frames) ≡ None
+pub faultless : (row p : ℕ) (f : Framed) → Sound-framed f → framed-fault row p (f .gap) (f .frames) ≡ None
 faultless row p f s =
     let here : (i : ℕ) → i < length (f .frames) → Within 1 (f .gap) (frame-at (f .frames) i .budget) × Within 1 255 (frame-at (f .frames) i .rank) =
     λ i l. all-getD _ (f .frames) i (record { budget = 0; rank = 0 }) l (s .frames) in
