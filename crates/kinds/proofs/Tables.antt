@@ -172,5 +172,5 @@ module _ {R X : Type 0} {good : R → Type 0} {classes : R → ℕ} {says : R �
       ]
 
 -- a row without fault is taken in while there is room
-pub taken : {X : Type 0} (rows : List X) (place : ℕ) (fault : Option Denial) → length rows < 16 → fault ≡ None → add-fault rows place fault ≡ None
-taken rows place fault room e = rw (le-ltb 15 (length rows) (omega arith)) e
+pub taken : {X : Type 0} (xs : List X) (bit : ℕ) (fault : Option Denial) → length xs < 16 → fault ≡ None → add-fault xs bit fault ≡ None
+taken xs bit fault room e = rw (le-ltb 15 (length xs) (omega arith)) e
