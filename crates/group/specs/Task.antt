@@ -1,10 +1,10 @@
 -- A task of a group by its meaning: its gap, its classes, its positions and how they move, and its demand.
 -- None of these ever changes; the present position is no part of a task (a group has a list of them). Assumes nothing.
 use mathlib.Core.Path.{_≡_}
-use mathlib.Core.List.{List, [], _∷_, map}
+use mathlib.Core.List.{List, [], _∷_}
 use mathlib.Core.Bool.{Bool, true, false, cond}
-use Prim.Native.Nat.{ℕ, zero, suc, _+_, _*_, _≤_, _<_, _-_}
-use lib.ListN.{length, getD, set, take}
+use Prim.Native.Nat.{ℕ, zero, suc, _+_, _*_, _≤_}
+use lib.ListN.{length, getD, set}
 use lib.Dec.{ltb}
 use Rattle.group.specs.declared.meaning.Outcome.{Outcome}
 use Rattle.group.specs.declared.meaning.Outcome.the-variants.{Finish, Miss}
@@ -89,7 +89,3 @@ settled ts ps i o = set ps i (after (at ts i) o (place ps i))
 -- no smaller demand would cover: some succession asks for all of it
 abbrev pub Attained : Task → Type 0
 Attained t = (N p : ℕ) → N ≤ 4095 → (x : ℕ) × (os : List Outcome) × Position t x × (length os ≡ N) × (along t (above t p) x os ≡ t .demand N p)
-
--- the tasks of a table, of whose rows the first len count
-abbrev pub tasks-of : {R : Type 0} → (R → Task) → List R → ℕ → List Task
-tasks-of task rows len = map task (take len rows)

@@ -20,6 +20,7 @@ use Rattle.group.specs.declared.meaning.Outcome.the-variants.{Finish, Miss}
 use Rattle.group.specs.Task.{Position, Lawful, no-terms, terms-of, after}
 use Rattle.plate.specs.Faults.{counted-fault}
 use Rattle.plate.specs.Plans.{Sound-counted}
+use Rattle.plate.proofs.Counteds as plate
 use Rattle.kinds.specs.declared.rows.MissCountedRow.{MissCountedRow}
 use Rattle.kinds.specs.Cycle.{next-class}
 use Rattle.kinds.specs.MissCounted.{counted-task, classes-of, count-above, most}
@@ -133,3 +134,8 @@ module _ (r : MissCountedRow) (n : ℕ) (o : Option Denial) (e : n ≡ r .misses
       good : (o : Option Denial) → BySome o (Sound-counted (counted-of r)) (λ _. Unit {0}) → BySome o (Good-counted r) (λ _. Unit {0})
       good None s = record { few = h; whole = l; sound = s }
       good (Some d) s = tt
+
+-- and a good row has no fault
+pub good-faultless : (r : MissCountedRow) → Good-counted r → counted-row-fault r ≡ None
+unfolding counted-row-fault
+good-faultless r k = rw (le-ltb 7 (r .misses) (k .few)) (plate.faultless 0 0 (r .gap) (r .budget) (take (r .misses + 1) (r .ranks)) (plate.sound-clean (counted-of r) (k .sound)))

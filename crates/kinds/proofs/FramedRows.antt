@@ -20,6 +20,7 @@ use Rattle.group.specs.declared.meaning.Outcome.the-variants.{Finish, Miss}
 use Rattle.group.specs.Task.{Position, Lawful, no-terms, terms-of, after}
 use Rattle.plate.specs.Faults.{frame-at, framed-fault}
 use Rattle.plate.specs.Plans.{Sound-framed}
+use Rattle.plate.proofs.Frameds as plate
 use Rattle.kinds.specs.declared.rows.FrameRow.{FrameRow}
 use Rattle.kinds.specs.Cycle.{next-class, successive, largest}
 use Rattle.kinds.specs.Frames.{framed-task, frame-terms}
@@ -127,3 +128,8 @@ module _ (r : FrameRow) (n : ℕ) (o : Option Denial) (e : n ≡ r .count) (h : 
       good : (o : Option Denial) → BySome o (Sound-framed (framed-of r)) (λ _. Unit {0}) → BySome o (Good-framed r) (λ _. Unit {0})
       good None s = record { some = omega (arith, s .classes .0, length-take (r .count) (r .frames)); few = h; whole = l; sound = s }
       good (Some d) s = tt
+
+-- and a good row has no fault
+pub good-faultless : (r : FrameRow) → Good-framed r → framed-row-fault r ≡ None
+unfolding framed-row-fault
+good-faultless r k = rw (le-ltb 8 (r .count) (k .few)) (plate.faultless 0 0 (framed-of r) (k .sound))

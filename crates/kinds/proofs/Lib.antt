@@ -8,6 +8,7 @@ pub mod Attained
 pub mod Counting
 pub mod Props
 pub mod Tables
+pub mod Stores
 pub mod CountedRows
 pub mod FramedRows
 pub mod Listed

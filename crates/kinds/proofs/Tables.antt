@@ -14,11 +14,12 @@ use Rattle.std.specs.Options.{Cases as BySome}
 use Rattle.std.specs.shelf.Lists.{All}
 use Rattle.std.proofs.shelf.Elements.{all-from-getD}
 use Rattle.std.proofs.shelf.Lists.{getD-map, getD-take, getD-past, set-past, length-map, getD-set-same, getD-set-other, take-more-set, map-push}
-use Rattle.std.proofs.shelf.Tests.{cases-lt, cond-below, cond-above}
+use Rattle.std.proofs.shelf.Tests.{cases-lt, cond-below, cond-above, le-ltb}
+use Rattle.denial.specs.declared.Denial.{Denial}
 use Rattle.group.specs.declared.meaning.Outcome.{Outcome}
 use Rattle.group.specs.Task.{Task, Position, Lawful, at, place, no-task, after, settled}
 use Rattle.group.proofs.Lists.{take-set}
-use Rattle.kinds.specs.Tables.{listed, Fits, Keeps, Placed, Row-at, No-row-at, Grown}
+use Rattle.kinds.specs.Tables.{listed, Fits, Keeps, Placed, Row-at, No-row-at, add-fault, Grown}
 
 same-or-below : (i n : ℕ) → i < n + 1 → (i ≡ n) ⊎ (i < n)
 same-or-below i n h = grind arith
@@ -31,8 +32,25 @@ pub record Kind {R X : Type 0} (good : R → Type 0) (classes : R → ℕ) (says
   pub placed : (r : R) → good r → (x : ℕ) → 1 ≤ x → x ≤ classes r → Position (task (says r)) x
   pub lawful : (r : R) → good r → Lawful (task (says r))
 
-module _ {R X : Type 0} {good : R → Type 0} {classes : R → ℕ} {says : R → X} {task : X → Task} (k : Kind good classes says task) (d : R)
-    (rows : List R) (places : List ℕ) (len : ℕ) (fits : Fits rows places len) (keeps : Keeps good d rows len) where
+-- what a table stores
+pub record Stored {R : Type 0} (good : R → Type 0) (classes : R → ℕ) (none : R) : Type 0 where
+  pub rows : List R
+  pub places : List ℕ
+  pub len : ℕ
+  pub fits : Fits rows places len
+  pub keeps : Keeps good none rows len
+  pub placed : Placed classes none rows places len
+
+module _ {R X : Type 0} {good : R → Type 0} {classes : R → ℕ} {says : R → X} {task : X → Task} {d : R} (k : Kind good classes says task) (s : Stored good classes d) where
+  abbrev rows : List R
+  rows = s .rows
+
+  abbrev places : List ℕ
+  places = s .places
+
+  abbrev len : ℕ
+  len = s .len
+
   abbrev told : List X
   told = listed says rows len
 
@@ -40,16 +58,16 @@ module _ {R X : Type 0} {good : R → Type 0} {classes : R → ℕ} {says : R �
   tasks = map task told
 
   pub good-at : (i : ℕ) → i < len → good (getD rows i d)
-  good-at i l = ∥∥₁-elim (keeps i l) (k .one (getD rows i d)) (λ h. h)
+  good-at i l = ∥∥₁-elim (s .keeps i l) (k .one (getD rows i d)) (λ h. h)
 
   pub rows-length : length told ≡ len
-  rows-length = length-map (take len rows) says ∙ (length-take len rows ∙ (let w = fits .1 in omega arith))
+  rows-length = length-map (take len rows) says ∙ (length-take len rows ∙ (let w = s .fits .1 in omega arith))
 
   pub tasks-length : length tasks ≡ len
   tasks-length = length-map told task ∙ rows-length
 
   row-here : (i : ℕ) (e : X) → i < len → getD told i e ≡ says (getD rows i d)
-  row-here i e l = getD-map says (take len rows) i d e (omega (arith, length-take len rows, fits .1)) ∙ ap says (getD-take len rows i d l)
+  row-here i e l = getD-map says (take len rows) i d e (omega (arith, length-take len rows, s .fits .1)) ∙ ap says (getD-take len rows i d l)
 
   task-here : (i : ℕ) → i < len → at tasks i ≡ task (says (getD rows i d))
   task-here i l = getD-map task told i (says d) no-task (omega (arith, rows-length)) ∙ ap task (row-here i (says d) l)
@@ -86,15 +104,15 @@ module _ {R X : Type 0} {good : R → Type 0} {classes : R → ℕ} {says : R �
 
   -- The laws of a group.
   pub few : length tasks ≤ 65535
-  few = omega (arith, tasks-length, fits .0)
+  few = omega (arith, tasks-length, s .fits .0)
 
   pub same-length : length (take len places) ≡ length tasks
-  same-length = length-take len places ∙ (let w = fits .2 in omega (arith, tasks-length))
+  same-length = length-take len places ∙ (let w = s .fits .2 in omega (arith, tasks-length))
 
-  pub positioned : Placed classes d rows places len → (i : ℕ) → i < length tasks → Position (at tasks i) (place (take len places) i)
-  positioned placed i l =
+  pub positioned : (i : ℕ) → i < length tasks → Position (at tasks i) (place (take len places) i)
+  positioned i l =
       let m : i < len = omega (arith, tasks-length) in
-      rw (task-here i m, getD-take len places i 0 m) (k .placed (getD rows i d) (good-at i m) (getD places i 0) (placed i m .0) (placed i m .1))
+      rw (task-here i m, getD-take len places i 0 m) (k .placed (getD rows i d) (good-at i m) (getD places i 0) (s .placed i m .0) (s .placed i m .1))
 
   pub lawfuls : (i : ℕ) → i < length tasks → Lawful (at tasks i)
   lawfuls = each-task Lawful (k .lawful)
@@ -142,13 +160,17 @@ module _ {R X : Type 0} {good : R → Type 0} {classes : R → ℕ} {says : R �
   grown-keeps r ok h i l =
       elim (same-or-below i len l) [
         | inl e ↦ rw (e, getD-set-same rows len r d h) (∣ ok ∣₁)
-        | inr m ↦ let ne : i ≢ len = omega arith in rw (getD-set-other rows len i r d ne) (keeps i m)
+        | inr m ↦ let ne : i ≢ len = omega arith in rw (getD-set-other rows len i r d ne) (s .keeps i m)
       ]
 
-  pub grown-placed : (r : R) → good r → len < length rows → len < length places → Placed classes d rows places len →
+  pub grown-placed : (r : R) → good r → len < length rows → len < length places →
       Placed classes d (set rows len r) (set places len 1) (len + 1)
-  grown-placed r ok h g placed i l =
+  grown-placed r ok h g i l =
       elim (same-or-below i len l) [
         | inl e ↦ rw (e, getD-set-same rows len r d h, getD-set-same places len 1 0 g) (omega arith, k .some r ok)
-        | inr m ↦ let ne : i ≢ len = omega arith in rw (getD-set-other rows len i r d ne, getD-set-other places len i 1 0 ne) (placed i m)
+        | inr m ↦ let ne : i ≢ len = omega arith in rw (getD-set-other rows len i r d ne, getD-set-other places len i 1 0 ne) (s .placed i m)
       ]
+
+-- a row without fault is taken in while there is room
+pub taken : {X : Type 0} (xs : List X) (bit : ℕ) (fault : Option Denial) → length xs < 16 → fault ≡ None → add-fault xs bit fault ≡ None
+taken xs bit fault room e = rw (le-ltb 15 (length xs) (omega arith)) e

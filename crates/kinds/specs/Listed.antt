@@ -33,18 +33,22 @@ Counted-row t = Row-at Good-counted counted-classes counted-of counted-task (cou
 abbrev pub Counted-added : MissCountedTable → MissCountedRow → MissCountedTable → Type 0
 Counted-added t r t′ = Grown counted-task (counted-of r) (counted-rows t) (counted-rows t′) (counted-places t) (counted-places t′)
 
--- The same of a frame table.
+-- the rows of a frame table
 abbrev pub framed-rows : FrameTable → List Framed
 framed-rows t = listed framed-of (t .rows) (t .len)
 
+-- the tasks that they mean
 abbrev pub framed-tasks : FrameTable → List Task
 framed-tasks t = map framed-task (framed-rows t)
 
+-- their present positions
 abbrev pub framed-places : FrameTable → List ℕ
 framed-places t = take (t .len) (t .places)
 
+-- row i of a table
 abbrev pub Framed-row : FrameTable → ℕ → FrameRow → Type 0
 Framed-row t = Row-at Good-framed framed-classes framed-of framed-task (framed-rows t)
 
+-- the table with one row more
 abbrev pub Framed-added : FrameTable → FrameRow → FrameTable → Type 0
 Framed-added t r t′ = Grown framed-task (framed-of r) (framed-rows t) (framed-rows t′) (framed-places t) (framed-places t′)

@@ -13,10 +13,11 @@ use Rattle.kinds.specs.MissCounted.{counted-task, Miss-counted}
 use Rattle.kinds.specs.Frames.{framed-task}
 use Rattle.kinds.specs.Listed.{counted-rows, counted-tasks, framed-rows}
 
--- no smaller demand would cover: for each number of jobs and each rank some succession asks for all of it
+-- no smaller demand of a miss-counted row would cover: for each number of jobs and each rank some succession asks for all of it
 abbrev pub Counted-attained : Type 0
 Counted-attained = (c : Counted) → Sound-counted c → Attained (counted-task c)
 
+-- and none of a frame row
 abbrev pub Framed-attained : Type 0
 Framed-attained = (f : Framed) → Sound-framed f → Attained (framed-task f)
 

@@ -5,9 +5,9 @@ mod exact;
 mod frame_row;
 mod frame_table;
 mod framed;
-mod leaf;
 mod miss_counted;
 mod rows;
+mod steps;
 #[cfg(test)]
 mod tests;
 

@@ -1,8 +1,8 @@
 use native.Mathlib.Omega.{arith}
 use Prim.Native.Nat.{_<_}
 use lib.ListN.{length, length-set}
-use Rattle.kinds.specs.Rows.{no-counted}
 use Rattle.kinds.proofs.CountedRows.{counted-kind}
+use Rattle.kinds.proofs.Stores.{counted-store}
 use Rattle.kinds.proofs.Tables.{grown, grown-keeps, grown-placed}
 use Rattle.kinds.proofs.counted_table.MissCountedTable.push.Needs as need
 
@@ -14,12 +14,12 @@ ghost-self c =
     let g : t .len < length (t .places) = omega arith in (
       (omega arith, omega (arith, length-set (t .rows) (t .len) row), omega (arith, length-set (t .places) (t .len) 1)),
       (
-        grown-keeps counted-kind no-counted (t .rows) (t .places) (t .len) (t .fits) (t .keeps) row (c .pre .good) h,
-        (grown-placed counted-kind no-counted (t .rows) (t .places) (t .len) (t .fits) (t .keeps) row (c .pre .good) h g (t .placed), tt),
+        grown-keeps counted-kind (counted-store t) row (c .pre .good) h,
+        (grown-placed counted-kind (counted-store t) row (c .pre .good) h g, tt),
       ),
     )
 
 pub returns : need.returns
 returns c =
     let t = c .args .self .now in
-    grown counted-kind no-counted (t .rows) (t .places) (t .len) (t .fits) (t .keeps) (c .args .row) (omega arith) (omega arith)
+    grown counted-kind (counted-store t) (c .args .row) (omega arith) (omega arith)

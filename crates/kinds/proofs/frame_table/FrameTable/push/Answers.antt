@@ -1,8 +1,8 @@
 use native.Mathlib.Omega.{arith}
 use Prim.Native.Nat.{_<_}
 use lib.ListN.{length, length-set}
-use Rattle.kinds.specs.Rows.{no-framed}
 use Rattle.kinds.proofs.FramedRows.{framed-kind}
+use Rattle.kinds.proofs.Stores.{framed-store}
 use Rattle.kinds.proofs.Tables.{grown, grown-keeps, grown-placed}
 use Rattle.kinds.proofs.frame_table.FrameTable.push.Needs as need
 
@@ -14,12 +14,12 @@ ghost-self c =
     let g : t .len < length (t .places) = omega arith in (
       (omega arith, omega (arith, length-set (t .rows) (t .len) row), omega (arith, length-set (t .places) (t .len) 1)),
       (
-        grown-keeps framed-kind no-framed (t .rows) (t .places) (t .len) (t .fits) (t .keeps) row (c .pre .good) h,
-        (grown-placed framed-kind no-framed (t .rows) (t .places) (t .len) (t .fits) (t .keeps) row (c .pre .good) h g (t .placed), tt),
+        grown-keeps framed-kind (framed-store t) row (c .pre .good) h,
+        (grown-placed framed-kind (framed-store t) row (c .pre .good) h g, tt),
       ),
     )
 
 pub returns : need.returns
 returns c =
     let t = c .args .self .now in
-    grown framed-kind no-framed (t .rows) (t .places) (t .len) (t .fits) (t .keeps) (c .args .row) (omega arith) (omega arith)
+    grown framed-kind (framed-store t) (c .args .row) (omega arith) (omega arith)
