@@ -1,5 +1,6 @@
 // Loading a plate into two tables.
 ghost use mathlib.Core.Path.{_≡_};
+ghost use mathlib.Core.List.{[]};
 ghost use Prim.Native.Nat.{_-_, _<_, _≤_};
 ghost use lib.ListN.{length};
 ghost use Rattle.std.specs.Results.{Cases};
@@ -8,7 +9,7 @@ ghost use Rattle.plate.specs.Plans.{Refused};
 ghost use Rattle.plate.specs.Reading.{handed, rest-of, Sound-row};
 ghost use Rattle.plate.specs.Readers.{state, plate-of};
 ghost use Rattle.plate.specs.Rows.{frames-of};
-ghost use Rattle.kinds.specs.Listed.{counted-rows, framed-rows};
+ghost use Rattle.kinds.specs.Listed.{counted-rows, counted-places, framed-rows, framed-places};
 ghost use Rattle.kinds.specs.Rows.{counted-of, framed-of};
 ghost use Rattle.plan.specs.Rows.{after-rows};
 ghost use Rattle.plan.specs.Loads.{plan-of, At-first, Loaded, Room-for, Added, Room};
@@ -106,6 +107,22 @@ fn fill(
     Ok(())
 }
 
+// Loads a plate into two empty tables; what they hold after a refusal is of no use.
+fn load_new(
+    plate: &[u8],
+    counted: &mut MissCountedTable,
+    frames: &mut FrameTable,
+) -> Result<(), Denial>
+    requires rows { ⌜ counted-rows (now counted) ≡ [] ⌝ ∗ ⌜ framed-rows (now frames) ≡ [] ⌝ }
+    requires places { ⌜ counted-places (now counted) ≡ [] ⌝ ∗ ⌜ framed-places (now frames) ≡ [] ⌝ }
+    ensures { λ r. ⌜ Cases r (λ _. Loaded (now (plate .entry)) (now (counted .exit)) (now (frames .exit))) (λ d. Refused (now (plate .entry)) d) ⌝ }
+{
+    let mut reader = Reader::new(plate);
+    let _ = reader.open()?;
+    fill(&mut reader, counted, frames)?;
+    Ok(())
+}
+
 // Loads a plate into two tables, each row at its first position. A refused plate leaves both tables as they were.
 pub fn load(
     plate: &[u8],
@@ -115,11 +132,11 @@ pub fn load(
     ensures { λ r. ⌜ Cases r (λ _. Loaded (now (plate .entry)) (now (counted .exit)) (now (frames .exit)))
         (λ d. Refused (now (plate .entry)) d × (now (counted .exit) ≡ now (counted .entry)) × (now (frames .exit) ≡ now (frames .entry))) ⌝ }
 {
-    let mut reader = Reader::new(plate);
-    let _ = reader.open()?;
     let mut new_counted = MissCountedTable::new();
     let mut new_frames = FrameTable::new();
-    fill(&mut reader, &mut new_counted, &mut new_frames)?;
+    if let Err(denial) = load_new(plate, &mut new_counted, &mut new_frames) {
+        return Err(denial);
+    }
     *counted = new_counted;
     *frames = new_frames;
     Ok(())
