@@ -31,7 +31,7 @@ returns-in-err-read-on c =
 pub returns : goal.returns
 returns c =
     let bs = c.args.plate.now in
-    let told = c.in-ok-counts.ensures in
+    let told = c.in_ok-counts.ensures in
     let first = opened_ok bs _ _ _ c.new-reader.ensures.plate c.new-reader.ensures.state told.result in
     let rest = opened_rest bs _ _ _ _ c.new-reader.ensures.plate told.plate c.new-reader.ensures.state told.after in
     record {

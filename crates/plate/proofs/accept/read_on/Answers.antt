@@ -17,15 +17,15 @@ returns-in-err-next-row c =
 pub loop-preserved : goal.loop-preserved
 loop-preserved c =
     let r = c.loop.reader in
-    let told = c.in-ok-next-row.ensures in
+    let told = c.in_ok-next_row.ensures in
     let is = rw c.in-Some.is at told.result in
-    let more = reads_more (plate_of r) (state r) (state c.next-row.new.self) _ c.loop.invariant.1 is told.after in
+    let more = reads_more (plate_of r) (state r) (state c.next_row.new.self) _ c.loop.invariant.1 is told.after in
     (told.plate ∙ c.loop.invariant.0, more.1, rw told.plate (sym more.0 ∙ c.loop.invariant.2))
 
 pub returns : goal.returns
 returns c =
     let r = c.loop.reader in
-    let told = c.in-ok-next-row.ensures in
-    let is = rw c.in-default.is at told.result in
+    let told = c.in_ok-next_row.ensures in
+    let is = rw c.in_default.is at told.result in
     let end = reads_end (plate_of r) (state r) c.loop.invariant.1 is in
     rw (← c.loop.invariant.0) (sym (ap fault_of end) ∙ c.loop.invariant.2)

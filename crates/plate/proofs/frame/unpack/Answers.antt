@@ -7,10 +7,10 @@ pub loop-i-preserved : goal.loop-i-preserved
 loop-i-preserved c =
     let bs = c.args.bytes.now in
     let i = c.loop-i.i in
-    let x = c.unpack-one.result in
+    let x = c.unpack_one.result in
     let n = frames_length bs in
     let here = frames_at bs i x (omega arith) in
-    padded_more (frames_of bs) c.loop-i.frames i x _ (omega arith) (omega arith) (here ∙ sym c.unpack-one.ensures) c.loop-i.invariant
+    padded_more (frames_of bs) c.loop-i.frames i x _ (omega arith) (omega arith) (here ∙ sym c.unpack_one.ensures) c.loop-i.invariant
 
 pub returns : goal.returns
 returns c =

@@ -9,10 +9,10 @@ returns-in-Some c = record { plate = search rules; result = rw (← c.in-Some.en
 
 pub returns-in-Some-lacks : goal.returns-in-Some-lacks
 returns-in-Some-lacks c =
-    let head = c.counted-head-head.ensures in
+    let head = c.counted_head-head.ensures in
     let short =
     counted_short c.args.cursor.now.plate.now _ c.args.cursor.now.place c.args.row _ _ _
-    head.plate head.classes.0 head.place c.in-default.ensures.value c.in-Some-lacks.ensures.value in
+    head.plate head.classes.0 head.place c.in_default.ensures.value c.in-Some-lacks.ensures.value in
     record { plate = search rules; result = rw short; place = search rules }
 
 pub returns-in-Some-counted-content : goal.returns-in-Some-counted-content
@@ -26,9 +26,9 @@ returns-in-Some-counted-content c =
 
 pub returns : goal.returns
 returns c =
-    let head = c.counted-head-head.ensures in
+    let head = c.counted_head-head.ensures in
     let whole =
     counted_whole c.args.cursor.now.plate.now _ c.args.cursor.now.place c.args.row _ _ _ _ _ _ _
     head.plate head.gap head.budget head.classes.0 head.spare head.place c.bytes-ranks.ensures.value
-    c.in-default.ensures.value c.in-default-lacks.ensures.value c.in-default-counted-content.ensures in
+    c.in_default.ensures.value c.in_default-lacks.ensures.value c.in-default-counted-content.ensures in
     record { plate = search rules; result = rw whole (cc); place = search rules }

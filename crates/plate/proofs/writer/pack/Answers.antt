@@ -11,9 +11,9 @@ pub loop-i-preserved : goal.loop-i-preserved
 loop-i-preserved c =
     let i = c.loop-i.i in
     let fs = c.args.frames.now in
-    let is : c.copy-from-slice.new.self ≡ bytes_of_frame (frame_at fs i) = c.copy-from-slice.ensures.after ∙ c.pack-one.ensures in
-    let size : length c.copy-from-slice.new.self ≡ 3 = ap length is in
-    let put = take-put_mid (3 * i) _ c.loop-i.bytes c.copy-from-slice.new.self (3 * (i + 1)) (omega arith) (omega arith) in
+    let is : c.copy_from_slice.new.self ≡ bytes_of_frame (frame_at fs i) = c.copy_from_slice.ensures.after ∙ c.pack_one.ensures in
+    let size : length c.copy_from_slice.new.self ≡ 3 = ap length is in
+    let put = take-put_mid (3 * i) _ c.loop-i.bytes c.copy_from_slice.new.self (3 * (i + 1)) (omega arith) (omega arith) in
     let more = joined_more bytes_of_frame fs i (record { budget = 0; rank = 0 }) (omega arith) in
     (search (rules, places), put ∙ rw (c.loop-i.invariant.1, is) (sym more))
 

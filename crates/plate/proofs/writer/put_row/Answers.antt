@@ -7,5 +7,5 @@ pub returns : goal.returns
 returns c =
     let front = c.args.front.now in
     let rest = c.args.rest.now in
-    let size : c.row-end-end.result - c.args.at ≡ length (front ++ rest) = omega (arith, length-append front rest) in
+    let size : c.row_end-end.result - c.args.at ≡ length (front ++ rest) = omega (arith, length-append front rest) in
     put_is c.args.at _ c.args.out.now _ (front ++ rest) c.fill.ensures size

@@ -10,5 +10,5 @@ pub returns : goal.returns
 returns c =
     let bs = plate_of c.args.self.now in
     let s = state c.args.self.now in
-    let e : Ok (option_map handed c.in-ok-row.row) ≡ unless (next_denial bs s) (next_row bs (opened bs s)) = search rules in
+    let e : Ok (option_map handed c.in_ok-row.row) ≡ unless (next_denial bs s) (next_row bs (opened bs s)) = search rules in
     record { plate = search rules; result = e; after = search rules; sound = sound_next bs s _ e }
