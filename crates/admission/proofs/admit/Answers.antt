@@ -21,23 +21,23 @@ returns-in-Err g c =
       law = rw r (start_says ts c.args.started (length s));
     }
 
-pub check-plan-requires : goal.check-plan-requires
-check-plan-requires g c =
+pub check_plan-requires : goal.check_plan-requires
+check_plan-requires g c =
     let ts = g.G.Group.tasks c.args.group.now in
     let s = c.args.scratch.now in
-    let p = early_passed ts c.args.started (length s) (accepted ts _ (sym c.in-default.ensures.result)) in
-    record { few = (p.2, p.3); marks = marks_held ts (drop 256 s) c.prepare.new.scratch c.in-default.ensures.scratch }
+    let p = early_passed ts c.args.started (length s) (accepted ts _ (sym c.in_default.ensures.result)) in
+    record { few = (p.2, p.3); marks = marks_held ts (drop 256 s) c.prepare.new.scratch c.in_default.ensures.scratch }
 
 pub returns : goal.returns
 returns g c =
     let ts = g.G.Group.tasks c.args.group.now in
     let s = c.args.scratch.now in
     let f : Option Denial = early_fault c.args.started (length s) ts in
-    let e : f ≡ None = accepted ts f (sym c.in-default.ensures.result) in
-    let r : c.check-plan.result ≡ answer ts (start_fault c.args.started (length s) ts) =
-    c.check-plan.ensures ∙ sym (ap (λ x. answer ts (option_or x (plan_fault ts))) e) in
+    let e : f ≡ None = accepted ts f (sym c.in_default.ensures.result) in
+    let r : c.check_plan.result ≡ answer ts (start_fault c.args.started (length s) ts) =
+    c.check_plan.ensures ∙ sym (ap (λ x. answer ts (option_or x (plan_fault ts))) e) in
     record {
       result = r;
-      scratch = c.in-default.ensures.scratch ∙ sym (ap (λ x. scratch_after x ts s) e);
+      scratch = c.in_default.ensures.scratch ∙ sym (ap (λ x. scratch_after x ts s) e);
       law = rw r (start_says ts c.args.started (length s));
     }

@@ -18,5 +18,5 @@ returns c = record {
     least_bounds = refl;
     least_verdict = refl;
   };
-  count = c.figure-count.ensures;
+  count = c.figure_count.ensures;
 }

@@ -11,7 +11,7 @@ loop-task-init g c =
 
 pub loop-task-preserved : goal.loop-task-preserved
 loop-task-preserved g c =
-    below_more (g.G.Group.tasks c.args.group.now) c.loop-task.task _ c.loop-task.scratch c.mark-task.new.scratch c.loop-task.invariant c.mark-task.ensures
+    below_more (g.G.Group.tasks c.args.group.now) c.loop-task.task _ c.loop-task.scratch c.mark_task.new.scratch c.loop-task.invariant c.mark_task.ensures
 
 pub returns : goal.returns
 returns g c =

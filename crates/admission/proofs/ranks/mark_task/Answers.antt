@@ -13,8 +13,8 @@ loop-i-preserved g c =
     let b : c.from-rank.result < 256 = omega arith in
     let room : 256 ≤ length c.loop-i.scratch = omega arith in
     let one : 1 ≤ c.args.task + 1 = omega arith in
-    marked_more t.classes c.loop-i.i c.from-rank.result (c.args.task + 1) c.first-mark.result c.args.scratch.now c.loop-i.scratch
-    l (c.from-rank.ensures ∙ ap (λ x. x.rank) (c.terms.ensures ∙ terms_next t c.loop-i.i)) b room one c.first-mark.ensures c.loop-i.invariant
+    marked_more t.classes c.loop-i.i c.from-rank.result (c.args.task + 1) c.first_mark.result c.args.scratch.now c.loop-i.scratch
+    l (c.from-rank.ensures ∙ ap (λ x. x.rank) (c.terms.ensures ∙ terms_next t c.loop-i.i)) b room one c.first_mark.ensures c.loop-i.invariant
 
 pub returns : goal.returns
 returns g c =

@@ -10,7 +10,7 @@ loop-task-init g c = least_none (sharing (g.G.Group.tasks c.args.group.now))
 pub loop-task-preserved : goal.loop-task-preserved
 loop-task-preserved g c =
     let ts = g.G.Group.tasks c.args.group.now in
-    rw c.keep-best.ensures (least_more ts c.loop-task.task c.lowest-sharer.result c.loop-task.best c.lowest-sharer.ensures c.loop-task.invariant)
+    rw c.keep-best.ensures (least_more ts c.loop-task.task c.lowest_sharer.result c.loop-task.best c.lowest_sharer.ensures c.loop-task.invariant)
 
 pub returns : goal.returns
 returns g c =

@@ -10,8 +10,8 @@ loop-i-init g c = lacks_none (g.G.Group.tasks c.args.group.now) c.args.task
 
 pub loop-i-preserved : goal.loop-i-preserved
 loop-i-preserved g c =
-    lacks_more (g.G.Group.tasks c.args.group.now) c.args.task c.loop-i.i c.loop-i.found c.or-class-found.result c.lacks-bound.result
-    c.loop-i.invariant c.lacks-bound.ensures c.or-class-found.ensures
+    lacks_more (g.G.Group.tasks c.args.group.now) c.args.task c.loop-i.i c.loop-i.found c.or_class-found.result c.lacks_bound.result
+    c.loop-i.invariant c.lacks_bound.ensures c.or_class-found.ensures
 
 pub returns : goal.returns
 returns g c =

@@ -17,7 +17,7 @@ returns-in-Some g c =
 pub loop-task-preserved : goal.loop-task-preserved
 loop-task-preserved g c =
     let ts = g.G.Group.tasks c.args.group.now in
-    none_more ts c.loop-task.task c.loop-task.invariant (none_lacks ts c.loop-task.task c.in-default.ensures)
+    none_more ts c.loop-task.task c.loop-task.invariant (none_lacks ts c.loop-task.task c.in_default.ensures)
 
 pub returns : goal.returns
 returns g c =

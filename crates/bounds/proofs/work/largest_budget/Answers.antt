@@ -9,8 +9,8 @@ pub loop-i-preserved : goal.loop-i-preserved
 loop-i-preserved g c =
     let t = at (g.G.Group.tasks c.args.group.now) c.args.task in
     let l : c.loop-i.i < length t.classes = omega arith in
-    c.max-most.ensures ∙ largest_more c.args.least c.loop-i.i c.at-least.result c.loop-i.most t.classes l
-    (c.at-least.ensures ∙ ap (weight c.args.least) (c.terms.ensures ∙ terms_next t c.loop-i.i)) c.loop-i.invariant
+    c.max-most.ensures ∙ largest_more c.args.least c.loop-i.i c.at_least.result c.loop-i.most t.classes l
+    (c.at_least.ensures ∙ ap (weight c.args.least) (c.terms.ensures ∙ terms_next t c.loop-i.i)) c.loop-i.invariant
 
 pub returns : goal.returns
 returns g c =

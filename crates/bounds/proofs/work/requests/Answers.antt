@@ -3,12 +3,12 @@ use Rattle.bounds.specs.Bound.{request}
 use Rattle.bounds.proofs.Grows.{request_small, sum_more}
 use Rattle.bounds.proofs.work.requests.Goals as goal
 
-pub overflow-add-total : goal.overflow-add-total
-overflow-add-total g c =
+pub overflow_add-total : goal.overflow_add-total
+overflow_add-total g c =
     let ts = g.G.Group.tasks c.args.group.now in
     let l : c.loop-i.i < length ts = omega arith in
     let s = request_small ts (g.met.G.Group.lawful c.args.group.now) c.args.own_val c.args.ticks c.args.rank c.loop-i.i l in
-    omega (arith, c.one-request-total.ensures, c.loop-i.invariant.1)
+    omega (arith, c.one_request-total.ensures, c.loop-i.invariant.1)
 
 pub loop-i-preserved : goal.loop-i-preserved
 loop-i-preserved g c =
@@ -16,4 +16,4 @@ loop-i-preserved g c =
     let l : c.loop-i.i < length ts = omega arith in
     let s = request_small ts (g.met.G.Group.lawful c.args.group.now) c.args.own_val c.args.ticks c.args.rank c.loop-i.i l in
     let e = sum_more c.loop-i.i (request ts c.args.own_val c.args.ticks c.args.rank) in
-    (omega (arith, c.one-request-total.ensures, c.loop-i.invariant.0), omega (arith, c.one-request-total.ensures, c.loop-i.invariant.1))
+    (omega (arith, c.one_request-total.ensures, c.loop-i.invariant.0), omega (arith, c.one_request-total.ensures, c.loop-i.invariant.1))

@@ -25,9 +25,9 @@ note-count-requires g c =
     let n = c.loop-task.task in
     let l : n < length ts = omega (arith, c.count-task-end.ensures) in
     let i = c.loop-task.invariant in
-    let e = end_at ts (g.G.Group.tasks c.loop-task.group) c.args.clock ps ss c.loop-task.table.seats c.args.mark c.is-it.result c.args.ran n
-    (listed c.pass-task-end.result) (g.met.G.Group.placed c.args.group.now) l i.0 c.is-it.ensures (i.1.seat_left n (omega arith)) c.pass-task-end.ensures.end in
-    let f = end_fits ts (state_of c.args.clock true ps ss) c.args.mark c.args.ran n c.loop-task.count (length c.args.ends.now) (listed c.pass-task-end.result) l e i.2 c.requires.room in
+    let e = end_at ts (g.G.Group.tasks c.loop-task.group) c.args.clock ps ss c.loop-task.table.seats c.args.mark c.is_it.result c.args.ran n
+    (listed c.pass_task-end.result) (g.met.G.Group.placed c.args.group.now) l i.0 c.is_it.ensures (i.1.seat_left n (omega arith)) c.pass_task-end.ensures.end in
+    let f = end_fits ts (state_of c.args.clock true ps ss) c.args.mark c.args.ran n c.loop-task.count (length c.args.ends.now) (listed c.pass_task-end.result) l e i.2 c.requires.room in
     omega (arith, f, c.loop-task.auto.ends)
 
 pub loop-task-preserved : goal.loop-task-preserved
@@ -47,19 +47,19 @@ loop-task-preserved g c =
     let h : n < length ss = omega (arith, l, c.requires.few, c.args.table.now.sized) in
     let p : n < length ps = omega (arith, l, m) in
     let i = c.loop-task.invariant in
-    let o = c.pass-task-end.result in
-    let e = end_at ts ts₁ clock ps ss ss₁ mark c.is-it.result c.args.ran n (listed o) m l i.0 c.is-it.ensures (i.1.seat_left n (omega arith)) c.pass-task-end.ensures.end in
+    let o = c.pass_task-end.result in
+    let e = end_at ts ts₁ clock ps ss ss₁ mark c.is_it.result c.args.ran n (listed o) m l i.0 c.is_it.ensures (i.1.seat_left n (omega arith)) c.pass_task-end.ensures.end in
     let f = end_fits ts s mark c.args.ran n c.loop-task.count (length c.args.ends.now) (listed o) l e i.2 c.requires.room in
-    let seats = c.pass-task-end.ensures.seats
-    ∙ ap (λ x. set ss₁ n (tick_seat (at x n) clock c.is-it.result mark (get_or ss₁ n new_seat))) i.0
-    ∙ ap (λ x. set ss₁ n (tick_seat (at ts n) clock x mark (get_or ss₁ n new_seat))) c.is-it.ensures in
-    let places = c.pass-task-end.ensures.places
-    ∙ ap (λ x. set ps₁ n (settled_place (at x n) (way_of (at x n) clock c.is-it.result mark (get_or ss₁ n new_seat).slot) (place ps₁ n))) i.0
-    ∙ ap (λ x. set ps₁ n (settled_place (at ts n) (way_of (at ts n) clock x mark (get_or ss₁ n new_seat).slot) (place ps₁ n))) c.is-it.ensures in
+    let seats = c.pass_task-end.ensures.seats
+    ∙ ap (λ x. set ss₁ n (tick_seat (at x n) clock c.is_it.result mark (get_or ss₁ n new_seat))) i.0
+    ∙ ap (λ x. set ss₁ n (tick_seat (at ts n) clock x mark (get_or ss₁ n new_seat))) c.is_it.ensures in
+    let places = c.pass_task-end.ensures.places
+    ∙ ap (λ x. set ps₁ n (settled_place (at x n) (way_of (at x n) clock c.is_it.result mark (get_or ss₁ n new_seat).slot) (place ps₁ n))) i.0
+    ∙ ap (λ x. set ps₁ n (settled_place (at ts n) (way_of (at ts n) clock x mark (get_or ss₁ n new_seat).slot) (place ps₁ n))) c.is_it.ensures in
     let more : ends_upto ts s mark c.args.ran (n + 1) ≡ ends_upto ts s mark c.args.ran n ++ listed o =
     ends_more ts s mark c.args.ran n ∙ ap (λ x. ends_upto ts s mark c.args.ran n ++ x) (sym e) in (
-      c.pass-task-end.ensures.tasks ∙ i.0,
-      passed_more ts clock mark c.args.ran n ss ss₁ c.pass-task-end.new.table.seats ps ps₁ (g.G.Group.places c.pass-task-end.new.group) i.1 h p seats places,
+      c.pass_task-end.ensures.tasks ∙ i.0,
+      passed_more ts clock mark c.args.ran n ss ss₁ c.pass_task-end.new.table.seats ps ps₁ (g.G.Group.places c.pass_task-end.new.group) i.1 h p seats places,
       c.note-count.ensures.count ∙ ap (λ x. x + length (listed o)) i.2 ∙ sym (ap length more ∙ length-append (ends_upto ts s mark c.args.ran n) (listed o)),
       c.note-count.ensures.ends ∙ noted_more (ends_upto ts s mark c.args.ran n) c.args.ends.now c.loop-task.ends c.loop-task.count o i.2 i.3 f
           ∙ ap (λ x. x ++ drop (c.loop-task.count + length (listed o)) c.args.ends.now) (sym more)

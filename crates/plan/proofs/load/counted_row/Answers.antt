@@ -12,5 +12,5 @@ returns c =
     let n : length rs - 1 + 1 ≡ length rs = omega arith in
     let says : counted_of (record { gap = c.args.gap; budget = c.args.budget; misses = length rs - 1; ranks = _ }) ≡ record { gap = c.args.gap; budget = c.args.budget; ranks = rs } =
     ap (λ (t : List ℕ). record { gap = c.args.gap; budget = c.args.budget; ranks = t })
-    (front rs c.copy-from-slice.new.self _ (length rs - 1 + 1) c.copy-from-slice.ensures.after n) in
-    record { says = ap counted_of c.with-classes.ensures ∙ says; few = rw c.with-classes.ensures (omega arith) }
+    (front rs c.copy_from_slice.new.self _ (length rs - 1 + 1) c.copy_from_slice.ensures.after n) in
+    record { says = ap counted_of c.with_classes.ensures ∙ says; few = rw c.with_classes.ensures (omega arith) }

@@ -3,8 +3,8 @@ use Rattle.plate.specs.Rows.{frames_of}
 use Rattle.plate.proofs.Frames.{frames_length, padded_few}
 use Rattle.plan.proofs.load.frame_row.Goals as goal
 
-pub overflow-cast-result : goal.overflow-cast-result
-overflow-cast-result c = let n = frames_length c.args.bytes.now in record { fits = omega arith }
+pub overflow_cast-result : goal.overflow_cast-result
+overflow_cast-result c = let n = frames_length c.args.bytes.now in record { fits = omega arith }
 
 pub returns : goal.returns
 returns c =

@@ -3,8 +3,8 @@ use Rattle.plate.specs.Reading.{handed}
 use Rattle.plan.proofs.Takes.{counted_taken, framed_taken, as_counted, as_framed}
 use Rattle.plan.proofs.load.take_row.Goals as goal
 
-pub frame-row-requires : goal.frame-row-requires
-frame-row-requires c =
+pub frame_row-requires : goal.frame_row-requires
+frame_row-requires c =
     let it = as_framed (handed c.args.row) _ _ _ (ap handed c.in-Frames.is) in
     (it.sound c.requires.sound).classes.1
 
@@ -12,8 +12,8 @@ pub returns-in-MissCounted : goal.returns-in-MissCounted
 returns-in-MissCounted c =
     let it = as_counted (handed c.args.row) _ _ _ _ (ap handed c.in-MissCounted.is) in
     let taken =
-    counted_taken c.args.counted.now c.add.new.self c.counted-row.result _ c.add.result
-    (it.room _ _ c.requires.room) c.counted-row.ensures.few c.counted-row.ensures.says (it.sound c.requires.sound)
+    counted_taken c.args.counted.now c.add.new.self c.counted_row.result _ c.add.result
+    (it.room _ _ c.requires.room) c.counted_row.ensures.few c.counted_row.ensures.says (it.sound c.requires.sound)
     c.add.ensures.result c.add.ensures.table in
     record { rows = it.added _ _ _ taken.0; first = λ f. (taken.1 f.0, f.1) }
 
@@ -21,7 +21,7 @@ pub returns-in-Frames : goal.returns-in-Frames
 returns-in-Frames c =
     let it = as_framed (handed c.args.row) _ _ _ (ap handed c.in-Frames.is) in
     let taken =
-    framed_taken c.args.frames.now c.add-in-Frames.new.self c.frame-row.result _ c.add-in-Frames.result
-    (it.room _ _ c.requires.room) c.frame-row.ensures.few c.frame-row.ensures.says (it.sound c.requires.sound)
+    framed_taken c.args.frames.now c.add-in-Frames.new.self c.frame_row.result _ c.add-in-Frames.result
+    (it.room _ _ c.requires.room) c.frame_row.ensures.few c.frame_row.ensures.says (it.sound c.requires.sound)
     c.add-in-Frames.ensures.result c.add-in-Frames.ensures.table in
     record { rows = it.added _ _ _ taken.0; first = λ f. (f.0, taken.1 f.1) }

@@ -7,16 +7,16 @@ use Rattle.plan.proofs.save.write_all.Goals as goal
 pub loop-i-init : goal.loop-i-init
 loop-i-init g c = (omega arith, sym (put_none c.args.out.now c.args.at))
 
-pub write-row-requires : goal.write-row-requires
-write-row-requires g c =
+pub write_row-requires : goal.write_row-requires
+write_row-requires g c =
     let xss = g.T.Rows.bytes c.args.rows.now in
     let i = c.loop-i.i in
     let more = concat_length xss i (omega arith) in
     let front = concat_front xss (i + 1) in
     record { here = omega arith; room = omega arith }
 
-pub overflow-add-end : goal.overflow-add-end
-overflow-add-end g c =
+pub overflow_add-end : goal.overflow_add-end
+overflow_add-end g c =
     let xss = g.T.Rows.bytes c.args.rows.now in
     let more = concat_length xss c.loop-i.i (omega arith) in
     let front = concat_front xss (c.loop-i.i + 1) in
@@ -29,7 +29,7 @@ loop-i-preserved g c =
     let more = concat_length xss i (omega arith) in (
       omega arith,
       put_more c.args.out.now c.loop-i.out _ xss c.args.at i c.loop-i.end (omega arith) c.requires.room
-          c.loop-i.invariant.0 c.loop-i.invariant.1 c.write-row.ensures,
+          c.loop-i.invariant.0 c.loop-i.invariant.1 c.write_row.ensures,
     )
 
 pub returns : goal.returns

@@ -6,12 +6,12 @@ use Rattle.plate.specs.Readers.{state, plate_of}
 use Rattle.plate.proofs.Rests.{reads_err, reads_end, reads_more}
 use Rattle.plate.proofs.accept.read_on.Goals as goal
 
-pub returns-in-err-next-row : goal.returns-in-err-next-row
-returns-in-err-next-row c =
+pub returns-in_err-next_row : goal.returns-in_err-next_row
+returns-in_err-next_row c =
     let r = c.loop.reader in
-    let told = c.in-err-next-row.ensures in
+    let told = c.in_err-next_row.ensures in
     let err = reads_err (plate_of r) (state r) _ _ c.loop.invariant.1 told.result in
-    let p = err_from_is_err_and c.from-residual.result c.from-residual.ensures.1 in
+    let p = err_from_is_err_and c.from_residual.result c.from_residual.ensures.1 in
     rw (p.1, p.2, ← c.loop.invariant.0) (sym (ap fault_of err) ∙ c.loop.invariant.2)
 
 pub loop-preserved : goal.loop-preserved

@@ -5,9 +5,9 @@ use Rattle.plate.specs.Plans.{header_denial}
 use Rattle.plate.proofs.Denials.{header_counts, header_whole}
 use Rattle.plate.proofs.reading.header.Goals as goal
 
-pub returns-in-default : goal.returns-in-default
+pub returns-in_default : goal.returns-in_default
 unfolding header_denial
-returns-in-default c = rw (lt-ltb (length c.args.plate.now) 2 (search rules), c.denies.ensures)
+returns-in_default c = rw (lt-ltb (length c.args.plate.now) 2 (search rules), c.denies.ensures)
 
 pub returns-then-first-ne1 : goal.returns-then-first-ne1
 returns-then-first-ne1 c =
@@ -31,9 +31,9 @@ returns c =
     let long : 2 ≤ length bs = search rules in
     let whole = header_whole bs long (c.ok.plate 0).fits (c.ok.plate 1).fits in
     let counts = header_counts bs (c.ok.plate 0).fits (c.ok.plate 1).fits in
-    let few = c.in-default-counts-fault.ensures.few in
+    let few = c.in_default-counts_fault.ensures.few in
     let from = begins bs long in (
-      rw (whole, eq-eqb (get_or bs 0 0 / 16) 1 c.if-first-ne1.false, ← c.in-default-counts-fault.ensures.value),
+      rw (whole, eq-eqb (get_or bs 0 0 / 16) 1 c.if-first-ne1.false, ← c.in_default-counts_fault.ensures.value),
       refl,
       rw (from, counts.1, counts.2),
       few.0,

@@ -15,13 +15,13 @@ returns-in-Some-lacks c =
     head.plate head.classes.0 head.place c.in_default.ensures.value c.in-Some-lacks.ensures.value in
     record { plate = search rules; result = rw short; place = search rules }
 
-pub returns-in-Some-counted-content : goal.returns-in-Some-counted-content
-returns-in-Some-counted-content c =
-    let head = c.counted-head-head.ensures in
+pub returns-in-Some-counted_content : goal.returns-in-Some-counted_content
+returns-in-Some-counted_content c =
+    let head = c.counted_head-head.ensures in
     let whole =
     counted_whole c.args.cursor.now.plate.now _ c.args.cursor.now.place c.args.row _ _ _ _ _ _ _
     head.plate head.gap head.budget head.classes.0 head.spare head.place c.bytes-ranks.ensures.value
-    c.in-default.ensures.value c.in-default-lacks.ensures.value c.in-Some-counted-content.ensures in
+    c.in_default.ensures.value c.in_default-lacks.ensures.value c.in-Some-counted_content.ensures in
     record { plate = search rules; result = rw whole; place = search rules }
 
 pub returns : goal.returns
@@ -30,5 +30,5 @@ returns c =
     let whole =
     counted_whole c.args.cursor.now.plate.now _ c.args.cursor.now.place c.args.row _ _ _ _ _ _ _
     head.plate head.gap head.budget head.classes.0 head.spare head.place c.bytes-ranks.ensures.value
-    c.in_default.ensures.value c.in_default-lacks.ensures.value c.in-default-counted-content.ensures in
+    c.in_default.ensures.value c.in_default-lacks.ensures.value c.in_default-counted_content.ensures in
     record { plate = search rules; result = rw whole (cc); place = search rules }

@@ -15,13 +15,13 @@ returns-in-Some-lacks c =
     head.plate head.count.0 head.place c.in_default.ensures.value c.in-Some-lacks.ensures.value in
     record { plate = search rules; result = rw short; place = search rules }
 
-pub returns-in-Some-framed-content : goal.returns-in-Some-framed-content
-returns-in-Some-framed-content c =
-    let head = c.framed-head-head.ensures in
+pub returns-in-Some-framed_content : goal.returns-in-Some-framed_content
+returns-in-Some-framed_content c =
+    let head = c.framed_head-head.ensures in
     let whole =
     framed_whole c.args.cursor.now.plate.now _ c.args.cursor.now.place c.args.row _ _ _ _ _ _
     head.plate head.gap head.count.0 head.spare head.place c.bytes-frames.ensures.value
-    c.in-default.ensures.value c.in-default-lacks.ensures.value c.in-Some-framed-content.ensures in
+    c.in_default.ensures.value c.in_default-lacks.ensures.value c.in-Some-framed_content.ensures in
     record { plate = search rules; result = rw whole; place = search rules }
 
 pub returns : goal.returns
@@ -30,5 +30,5 @@ returns c =
     let whole =
     framed_whole c.args.cursor.now.plate.now _ c.args.cursor.now.place c.args.row _ _ _ _ _ _
     head.plate head.gap head.count.0 head.spare head.place c.bytes-frames.ensures.value
-    c.in_default.ensures.value c.in_default-lacks.ensures.value c.in-default-framed-content.ensures in
+    c.in_default.ensures.value c.in_default-lacks.ensures.value c.in_default-framed_content.ensures in
     record { plate = search rules; result = rw whole (cc); place = search rules }

@@ -3,4 +3,4 @@ use Rattle.plate.proofs.same.same.Goals as goal
 use Rattle.std.proofs.lemmas.Bool.Decides.{Decides-eqb}
 
 pub returns : goal.returns
-returns c = slice_eq-Decides Decides-eqb _ _ _ c.match-all.ensures
+returns c = slice_eq-Decides Decides-eqb _ _ _ c.match_all.ensures

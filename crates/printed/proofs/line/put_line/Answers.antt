@@ -7,6 +7,6 @@ pub returns : goal.returns
 unfolding line_text
 returns c =
     record {
-      put = then (rw c.columns.ensures at c.put-columns-end.ensures.put) c.put-bound.ensures.put;
-      few = omega (arith, c.put-columns-end.ensures.few, c.put-bound.ensures.few);
+      put = then (rw c.columns.ensures at c.put_columns-end.ensures.put) c.put_bound.ensures.put;
+      few = omega (arith, c.put_columns-end.ensures.few, c.put_bound.ensures.few);
     }

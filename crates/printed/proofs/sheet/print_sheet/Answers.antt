@@ -8,30 +8,30 @@ use Rattle.printed.proofs.sheet.print_sheet.Goals as goal
 pub returns-in-Some : goal.returns-in-Some
 returns-in-Some c =
     let bs = c.args.plate.now in
-    let bytes : Bytes bs = λ i. (c.type-inv.plate i).fits in
-    let text = by_verdict bs c.verdict-of-fault.result c.verdict-of-fault.ensures.fault in
-    let n : c.put-sheet-needed.result ≡ length (sheet_text bs) = omega (arith, c.put-sheet-needed.ensures.put.place, ap length text) in
+    let bytes : Bytes bs = λ i. (c.type_inv.plate i).fits in
+    let text = by_verdict bs c.verdict_of-fault.result c.verdict_of-fault.ensures.fault in
+    let n : c.put_sheet-needed.result ≡ length (sheet_text bs) = omega (arith, c.put_sheet-needed.ensures.put.place, ap length text) in
     record {
-      result = refused (sheet_text bs) c.put-sheet-needed.result (length c.args.out.now) c.in-Some.denial n c.in-Some.ensures;
+      result = refused (sheet_text bs) c.put_sheet-needed.result (length c.args.out.now) c.in-Some.denial n c.in-Some.ensures;
       within = tt;
       out = refl;
-      scratch = c.verdict-of-fault.ensures.scratch;
-      short = short bs bytes (omega (arith, c.put-sheet-needed.ensures.few));
+      scratch = c.verdict_of-fault.ensures.scratch;
+      short = short bs bytes (omega (arith, c.put_sheet-needed.ensures.few));
       told = told bs bytes;
     }
 
 pub returns : goal.returns
 returns c =
     let bs = c.args.plate.now in
-    let bytes : Bytes bs = λ i. (c.type-inv.plate i).fits in
-    let text = by_verdict bs c.verdict-of-fault.result c.verdict-of-fault.ensures.fault in
-    let n : c.put-sheet-needed.result ≡ length (sheet_text bs) = omega (arith, c.put-sheet-needed.ensures.put.place, ap length text) in
-    let all = printed c.args.out.now (sheet_text bs) _ c.put-sheet-needed.result _ n c.in-default.ensures (rw text at c.put-sheet.ensures.put) in
+    let bytes : Bytes bs = λ i. (c.type_inv.plate i).fits in
+    let text = by_verdict bs c.verdict_of-fault.result c.verdict_of-fault.ensures.fault in
+    let n : c.put_sheet-needed.result ≡ length (sheet_text bs) = omega (arith, c.put_sheet-needed.ensures.put.place, ap length text) in
+    let all = printed c.args.out.now (sheet_text bs) _ c.put_sheet-needed.result _ n c.in_default.ensures (rw text at c.put_sheet.ensures.put) in
     record {
       result = all.result;
       within = all.within;
       out = all.out;
-      scratch = c.verdict-of-fault.ensures.scratch;
-      short = short bs bytes (omega (arith, c.put-sheet-needed.ensures.few));
+      scratch = c.verdict_of-fault.ensures.scratch;
+      short = short bs bytes (omega (arith, c.put_sheet-needed.ensures.few));
       told = told bs bytes;
     }

@@ -2,5 +2,5 @@ use Rattle.std.proofs.Common.{arith}
 use Rattle.printed.proofs.Starts.{tasks_of_plan}
 use Rattle.printed.proofs.sheet.put_front.Goals as goal
 
-pub put-group-requires : goal.put-group-requires
-put-group-requires c = let n = tasks_of_plan _ c.in-Ok.ensures.sound in omega arith
+pub put_group-requires : goal.put_group-requires
+put_group-requires c = let n = tasks_of_plan _ c.in-Ok.ensures.sound in omega arith

@@ -5,7 +5,7 @@ use Rattle.printed.proofs.sheet.put_sheet.Goals as goal
 pub returns : goal.returns
 returns c =
     record {
-      put = then c.put-front-end.ensures.put c.put-verdict.ensures.put;
-      few = omega (arith, c.put-front-end.ensures.put.place, c.put-verdict.ensures.few);
-      fits = omega (arith, c.put-front-end.ensures.few, c.put-verdict.ensures.few);
+      put = then c.put_front-end.ensures.put c.put_verdict.ensures.put;
+      few = omega (arith, c.put_front-end.ensures.put.place, c.put_verdict.ensures.few);
+      fits = omega (arith, c.put_front-end.ensures.few, c.put_verdict.ensures.few);
     }

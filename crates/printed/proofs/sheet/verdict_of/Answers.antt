@@ -1,8 +1,8 @@
 use Rattle.printed.proofs.Starts.{tasks_of_plan}
 use Rattle.printed.proofs.sheet.verdict_of.Goals as goal
 
-pub start-fault-requires : goal.start-fault-requires
-start-fault-requires c = tasks_of_plan _ c.in-Ok.ensures.sound
+pub start_fault-requires : goal.start_fault-requires
+start_fault-requires c = tasks_of_plan _ c.in-Ok.ensures.sound
 
 pub returns-in-Ok : goal.returns-in-Ok
 returns-in-Ok c =

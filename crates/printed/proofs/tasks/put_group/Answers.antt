@@ -5,6 +5,6 @@ use Rattle.printed.proofs.tasks.put_group.Goals as goal
 pub returns : goal.returns
 returns g c =
     record {
-      put = then c.put-text-end.ensures c.put-tasks.ensures.put;
-      few = omega (arith, c.put-text-end.ensures.place, c.put-tasks.ensures.few);
+      put = then c.put_text-end.ensures c.put_tasks.ensures.put;
+      few = omega (arith, c.put_text-end.ensures.place, c.put_tasks.ensures.few);
     }

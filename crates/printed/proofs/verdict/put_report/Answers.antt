@@ -13,8 +13,8 @@ by_columns d = simp append_assoc
 
 pub returns : goal.returns
 returns c =
-    let numbers = rw c.number-and-first.ensures at c.put-columns-end.ensures.put in
+    let numbers = rw c.number_and_first.ensures at c.put_columns-end.ensures.put in
     record {
-      put = rw (by_columns c.args.denial.now) (then c.put-text-word.ensures (then numbers c.put-number.ensures.put));
-      few = omega (arith, c.put-text-word.ensures.place, c.put-columns-end.ensures.few, c.put-number.ensures.few);
+      put = rw (by_columns c.args.denial.now) (then c.put_text-word.ensures (then numbers c.put_number.ensures.put));
+      few = omega (arith, c.put_text-word.ensures.place, c.put_columns-end.ensures.few, c.put_number.ensures.few);
     }

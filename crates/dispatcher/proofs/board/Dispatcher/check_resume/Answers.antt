@@ -13,7 +13,7 @@ returns g c =
     let d = c.args.self.now in
     let ts = g.G.Group.tasks d.group in
     let n = c.count-count.ensures in
-    let u : unstarted_fault d.started (length ts) ≡ None = ap (unstarted_fault d.started) (sym n) ∙ clear (unstarted_fault d.started c.count-count.result) tt _ c.in-ok-check-started.ensures in
-    let k : no_task_fault (length ts) c.args.task ≡ None = ap (λ x. no_task_fault x c.args.task) (sym n) ∙ clear (no_task_fault c.count-count.result c.args.task) tt _ c.in-ok-check-number.ensures in
-    resume_checked ts d.clock d.started (g.G.Group.places d.group) d.table.seats (g.met.G.Group.placed d.group) c.args.task c.check-halted.result u k
-    (c.check-halted.ensures ∙ ap (λ x. unless (when (not (is_halted x.slot)) (denied NotHalted 0 0)) tt) c.seat.ensures)
+    let u : unstarted_fault d.started (length ts) ≡ None = ap (unstarted_fault d.started) (sym n) ∙ clear (unstarted_fault d.started c.count-count.result) tt _ c.in_ok-check_started.ensures in
+    let k : no_task_fault (length ts) c.args.task ≡ None = ap (λ x. no_task_fault x c.args.task) (sym n) ∙ clear (no_task_fault c.count-count.result c.args.task) tt _ c.in_ok-check_number.ensures in
+    resume_checked ts d.clock d.started (g.G.Group.places d.group) d.table.seats (g.met.G.Group.placed d.group) c.args.task c.check_halted.result u k
+    (c.check_halted.ensures ∙ ap (λ x. unless (when (not (is_halted x.slot)) (denied NotHalted 0 0)) tt) c.seat.ensures)

@@ -2,5 +2,5 @@ use Rattle.std.proofs.Common.{refl}
 use Rattle.dispatcher.proofs.NewSeats.{new_steady}
 use Rattle.dispatcher.proofs.board.Dispatcher.new.Goals as goal
 
-pub invariant-of-result-2 : goal.invariant-of-result-2
-invariant-of-result-2 g c = (new_steady 64, tt)
+pub invariant_of-result-2 : goal.invariant_of-result-2
+invariant_of-result-2 g c = (new_steady 64, tt)

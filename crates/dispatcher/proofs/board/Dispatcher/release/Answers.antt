@@ -13,13 +13,13 @@ returns g c =
     let ps = g.G.Group.places d.group in
     let s = state_of d.clock d.started ps d.table.seats in
     let k = c.args.task in
-    let f : release_fault ts s k ≡ None = clear (release_fault ts s k) tt _ c.in-default.ensures in
+    let f : release_fault ts s k ≡ None = clear (release_fault ts s k) tt _ c.in_default.ensures in
     let m = g.met.G.Group.placed d.group in
     let h = release_known ts d.clock d.started ps d.table.seats m k f in
     let l : k < length d.table.seats = omega (arith, h.0, h.1, d.table.sized) in
-    let e = c.release.ensures ∙ ap (λ x. set d.table.seats k (release_seat x d.clock (get_or d.table.seats k new_seat))) c.class-now-class.ensures in
+    let e = c.release.ensures ∙ ap (λ x. set d.table.seats k (release_seat x d.clock (get_or d.table.seats k new_seat))) c.class_now-class.ensures in
     record {
-      result = c.in-default.ensures;
+      result = c.in_default.ensures;
       state = ap (state_of d.clock d.started ps) e ∙ release_left ts d.clock d.started ps d.table.seats m k h.0 l
           ∙ sym (ap (λ x. kept_if x s (released ts k s)) f);
       group = refl;

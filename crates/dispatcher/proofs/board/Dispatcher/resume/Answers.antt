@@ -12,13 +12,13 @@ returns g c =
     let ps = g.G.Group.places d.group in
     let s = state_of d.clock d.started ps d.table.seats in
     let k = c.args.task in
-    let f : resume_fault ts s k ≡ None = clear (resume_fault ts s k) tt _ c.in-default.ensures in
+    let f : resume_fault ts s k ≡ None = clear (resume_fault ts s k) tt _ c.in_default.ensures in
     let m = g.met.G.Group.placed d.group in
     let h = resume_known ts d.clock d.started ps d.table.seats m k f in
     let l : k < length d.table.seats = omega (arith, h.0, h.1, d.table.sized) in
     let e = c.resume.ensures in
     record {
-      result = c.in-default.ensures;
+      result = c.in_default.ensures;
       state = ap (state_of d.clock d.started ps) e ∙ resume_left ts d.clock d.started ps d.table.seats m k h.0 l
           ∙ sym (ap (λ x. kept_if x s (resumed k s)) f);
       group = refl;

@@ -14,6 +14,6 @@ returns g c =
     let ps = g.G.Group.places d.group in
     let k = c.args.task in
     let s = state_of d.clock d.started ps d.table.seats in
-    let f : task_fault ts k ≡ None = clear (task_fault ts k) tt _ c.in-ok-check-task.ensures in
+    let f : task_fault ts k ≡ None = clear (task_fault ts k) tt _ c.in_ok-check_task.ensures in
     let e = seen-is ts d.clock d.started ps d.table.seats (g.met.G.Group.placed d.group) k (task_clear ts k f).2 c.seat.result.slot (ap (λ x. x.slot) c.seat.ensures) in
     ap Ok (c.seen.ensures ∙ ap (view_of d.clock) e) ∙ ap (λ x. unless x (view_of d.clock (slot_of s k))) (sym f)

@@ -33,20 +33,20 @@ returns g c =
     let s = state_of d.clock d.started ps d.table.seats in
     let mark = c.args.finish in
     let room = length c.args.ends.now in
-    let f : tick_fault ts s mark room ≡ None = clear (tick_fault ts s mark room) tt _ c.in-default.ensures in
+    let f : tick_fault ts s mark room ≡ None = clear (tick_fault ts s mark room) tt _ c.in_default.ensures in
     let m = g.met.G.Group.placed d.group in
-    let r = c.next-to-run-ran.ensures in
-    let p = c.pass-all-count.ensures in
-    let ran = c.next-to-run-ran.result in
-    let ss = c.pass-all-count.new.table.seats in
-    let qs = g.G.Group.places c.pass-all-count.new.group in
+    let r = c.next_to_run-ran.ensures in
+    let p = c.pass_all-count.ensures in
+    let ran = c.next_to_run-ran.result in
+    let ss = c.pass_all-count.new.table.seats in
+    let qs = g.G.Group.places c.pass_all-count.new.group in
     let b = tick_began ts d.clock d.started ps qs d.table.seats ss m mark room f in
     let a = ends_as ts d.clock d.started ps qs d.table.seats ss m mark ran b in
     record {
-      result = tick_says ts s mark room f ran c.pass-all-count.result r (p.count ∙ ap length a);
+      result = tick_says ts s mark room f ran c.pass_all-count.result r (p.count ∙ ap length a);
       state = tick_leaves ts s mark room f ran (state_of (d.clock + 1) d.started qs ss) r (ticked_is ts d.clock d.started ps qs d.table.seats ss m mark ran p.passed);
       tasks = p.tasks;
-      ends = tick_lists ts s mark room f ran c.args.ends.now c.pass-all-count.new.ends c.pass-all-count.result r (p.count ∙ ap length a)
-          (p.ends ∙ ap (λ x. x ++ drop c.pass-all-count.result c.args.ends.now) a);
+      ends = tick_lists ts s mark room f ran c.args.ends.now c.pass_all-count.new.ends c.pass_all-count.result r (p.count ∙ ap length a)
+          (p.ends ∙ ap (λ x. x ++ drop c.pass_all-count.result c.args.ends.now) a);
       refused = tt;
     }

@@ -9,5 +9,5 @@ push-requires c =
     let t = c.args.self.now in
     record {
       room = omega (arith, c.len.ensures.rows, rows_length framed_kind (framed_store t));
-      good = c.in-default.ensures.good;
+      good = c.in_default.ensures.good;
     }

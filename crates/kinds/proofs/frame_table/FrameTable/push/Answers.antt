@@ -4,8 +4,8 @@ use Rattle.kinds.specs.Stores.{framed_store}
 use Rattle.kinds.specs.TablesLemmas.{grown, grown_keeps, grown_placed}
 use Rattle.kinds.proofs.frame_table.FrameTable.push.Goals as goal
 
-pub invariant-of-self : goal.invariant-of-self
-invariant-of-self c =
+pub invariant_of-self : goal.invariant_of-self
+invariant_of-self c =
     let t = c.args.self.now in
     let row = c.args.row in
     let h : t.len < length t.rows = omega arith in

@@ -5,7 +5,7 @@ use Rattle.kinds.proofs.rows.FrameRow.fault.Goals as goal
 pub returns : goal.returns
 returns c =
     let row = c.args.self.now in
-    let fault = c.frames-fault in
+    let fault = c.frames_fault in
     record {
       value = fault_past row (row.count - 0) fault.result (omega arith) c.if-self-gt8.false fault.ensures.value;
       good = faultless row (row.count - 0) fault.result (omega arith) c.if-self-gt8.false (omega arith) fault.ensures.sound;

@@ -10,5 +10,5 @@ loop-start-preserved c =
     let f : ℕ → ℕ = λ x. successive (row_above row c.args.rank) row.count x c.args.number in
     let before : c.loop-start.best ≡ largest (c.loop-start.start - 1) f = c.loop-start.invariant in
     let more : largest (c.loop-start.start + 1 - 1) f ≡ _ = largest_more f c.loop-start.start (omega arith) in
-    let now : c.max-best.result ≡ largest (c.loop-start.start + 1 - 1) f = omega (arith, c.max-best.ensures, c.successive-above.ensures) in
+    let now : c.max-best.result ≡ largest (c.loop-start.start + 1 - 1) f = omega (arith, c.max-best.ensures, c.successive_above.ensures) in
     now

@@ -5,7 +5,7 @@ use Rattle.kinds.proofs.rows.MissCountedRow.fault.Goals as goal
 pub returns : goal.returns
 returns c =
     let row = c.args.self.now in
-    let fault = c.miss-counted-fault in
+    let fault = c.miss_counted_fault in
     record {
       value = fault_past row (row.misses + 1 - 0) fault.result (omega arith) c.if-self-gt7.false fault.ensures.value;
       good = faultless row (row.misses + 1 - 0) fault.result (omega arith) c.if-self-gt7.false (omega arith) fault.ensures.sound;

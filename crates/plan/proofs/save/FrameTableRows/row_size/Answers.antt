@@ -9,7 +9,7 @@ pub returns-in-Some : goal.returns-in-Some
 returns-in-Some c =
     let row = c.in-Some.ensures.row in
     let is = bytes_at framed_bytes (framed_rows c.args.self.now) c.args.i _ row.here row.stands in
-    rw is (omega (arith, joined_length (take c.in-Some.row.now.count c.in-Some.row.now.frames), ap length c.row-frames.ensures))
+    rw is (omega (arith, joined_length (take c.in-Some.row.now.count c.in-Some.row.now.frames), ap length c.row_frames.ensures))
 
 pub returns-in-None : goal.returns-in-None
 returns-in-None c =

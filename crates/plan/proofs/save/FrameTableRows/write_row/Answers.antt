@@ -13,10 +13,10 @@ returns-in-Some c =
     let said : Framed = record { gap = r.gap; frames = take r.count r.frames } in
     let is = bytes_at framed_bytes (framed_rows c.args.self.now) c.args.i said row.here row.stands in
     rw is
-    (framed_written c.args.out.now _ c.args.at said c.write-frames.result row.keeps.sound (rw is at c.requires.room)
-    (simp c.row-frames.ensures at c.write-frames.ensures.result) (simp c.row-frames.ensures at c.write-frames.ensures.out))
+    (framed_written c.args.out.now _ c.args.at said c.write_frames.result row.keeps.sound (rw is at c.requires.room)
+    (simp c.row_frames.ensures at c.write_frames.ensures.result) (simp c.row_frames.ensures at c.write_frames.ensures.out))
 
-pub returns-in-default : goal.returns-in-default
-returns-in-default c =
-    let row = c.in-default.ensures.row in
+pub returns-in_default : goal.returns-in_default
+returns-in_default c =
+    let row = c.in_default.ensures.row in
     absurd (omega (arith, row.past, c.requires.here, length-map (framed_rows c.args.self.now) framed_bytes))

@@ -8,7 +8,7 @@ pub returns-in-Some : goal.returns-in-Some
 returns-in-Some c =
     let row = c.in-Some.ensures.row in
     let is = bytes_at counted_bytes (counted_rows c.args.self.now) c.args.i _ row.here row.stands in
-    rw is (omega (arith, ap length c.row-ranks.ensures))
+    rw is (omega (arith, ap length c.row_ranks.ensures))
 
 pub returns-in-None : goal.returns-in-None
 returns-in-None c =

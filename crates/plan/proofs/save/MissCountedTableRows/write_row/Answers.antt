@@ -13,10 +13,10 @@ returns-in-Some c =
     let said : Counted = record { gap = r.gap; budget = r.budget; ranks = take (r.misses + 1) r.ranks } in
     let is = bytes_at counted_bytes (counted_rows c.args.self.now) c.args.i said row.here row.stands in
     rw is
-    (counted_written c.args.out.now _ c.args.at said c.write-miss-counted.result row.keeps.sound (rw is at c.requires.room)
-    (simp c.row-ranks.ensures at c.write-miss-counted.ensures.result) (simp c.row-ranks.ensures at c.write-miss-counted.ensures.out))
+    (counted_written c.args.out.now _ c.args.at said c.write_miss_counted.result row.keeps.sound (rw is at c.requires.room)
+    (simp c.row_ranks.ensures at c.write_miss_counted.ensures.result) (simp c.row_ranks.ensures at c.write_miss_counted.ensures.out))
 
-pub returns-in-default : goal.returns-in-default
-returns-in-default c =
-    let row = c.in-default.ensures.row in
+pub returns-in_default : goal.returns-in_default
+returns-in_default c =
+    let row = c.in_default.ensures.row in
     absurd (omega (arith, row.past, c.requires.here, length-map (counted_rows c.args.self.now) counted_bytes))
