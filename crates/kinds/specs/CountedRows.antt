@@ -130,3 +130,7 @@ module _ (r : MissCountedRow) (n : ℕ) (o : Option Denial) (e : n ≡ r.misses 
 pub sound_faultless : (r : MissCountedRow) → r.misses ≤ 7 → SoundCounted (counted_of r) → counted_row_fault r ≡ None
 unfolding counted_row_fault
 sound_faultless r few s = rw (le-ltb 7 r.misses few) (plate.faultless 0 0 r.gap r.budget (take (r.misses + 1) r.ranks) (plate.sound_clean (counted_of r) s))
+
+-- so a good row has none
+pub good_faultless : (r : MissCountedRow) → GoodCounted r → counted_row_fault r ≡ None
+good_faultless r k = sound_faultless r k.few k.sound

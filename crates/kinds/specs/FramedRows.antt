@@ -124,3 +124,7 @@ module _ (r : FrameRow) (n : ℕ) (o : Option Denial) (e : n ≡ r.count) (h : r
 pub sound_faultless : (r : FrameRow) → r.count ≤ 8 → SoundFramed (framed_of r) → framed_row_fault r ≡ None
 unfolding framed_row_fault
 sound_faultless r few s = rw (le-ltb 8 r.count few) (plate.faultless 0 0 (framed_of r) s)
+
+-- so a good row has none
+pub good_faultless : (r : FrameRow) → GoodFramed r → framed_row_fault r ≡ None
+good_faultless r k = sound_faultless r k.few k.sound

@@ -5,6 +5,7 @@ pub mod Rows
 pub mod Tables
 pub mod Listed
 pub mod Demands
+pub mod Promises
 pub mod FramedRows
 pub mod CycleLemmas
 pub mod FramedLaws

@@ -1,13 +1,12 @@
 // Comparing two plates.
 ghost use Rattle.std.specs.Prelude.{◌≡◌, min, not, length, Decides, ◌==◌, slice_index};
-ghost use Rattle.std.specs.Cmp.Lexicographic.{Matches};
 ghost use Rattle.find.specs.First.{first};
 
 use find::{Items, first_of};
 
 // Whether two plates have one length, and one byte at each index.
 fn match_all(a: &[u8], b: &[u8]) -> bool
-    ensures { Matches (λ x y t. Decides t (x ≡ y)) a.now b.now result }
+    ensures { Decides result (a.now ≡ b.now) }
 {
     a == b
 }

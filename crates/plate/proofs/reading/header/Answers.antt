@@ -12,13 +12,13 @@ returns-in_default c = rw (lt-ltb (length c.args.plate.now) 2 (search rules), c.
 pub returns-then-first-ne1 : goal.returns-then-first-ne1
 returns-then-first-ne1 c =
     let bs = c.args.plate.now in
-    let whole = header_whole bs (search rules) (c.ok.plate 0).fits (c.ok.plate 1).fits in
+    let whole = header_whole bs (search rules) (c.type_inv.plate 0).fits (c.type_inv.plate 1).fits in
     rw (whole, ne_eqb (get_or bs 0 0 / 16) 1 c.if-first-ne1.true, c.denies-then-first-ne1.ensures)
 
 pub returns-in-Some : goal.returns-in-Some
 returns-in-Some c =
     let bs = c.args.plate.now in
-    let whole = header_whole bs (search rules) (c.ok.plate 0).fits (c.ok.plate 1).fits in
+    let whole = header_whole bs (search rules) (c.type_inv.plate 0).fits (c.type_inv.plate 1).fits in
     rw (whole, eq-eqb (get_or bs 0 0 / 16) 1 c.if-first-ne1.false, ← c.in-Some.ensures.value)
 
 -- the rows begin where the rest begins
@@ -29,8 +29,8 @@ pub returns : goal.returns
 returns c =
     let bs = c.args.plate.now in
     let long : 2 ≤ length bs = search rules in
-    let whole = header_whole bs long (c.ok.plate 0).fits (c.ok.plate 1).fits in
-    let counts = header_counts bs (c.ok.plate 0).fits (c.ok.plate 1).fits in
+    let whole = header_whole bs long (c.type_inv.plate 0).fits (c.type_inv.plate 1).fits in
+    let counts = header_counts bs (c.type_inv.plate 0).fits (c.type_inv.plate 1).fits in
     let few = c.in_default-counts_fault.ensures.few in
     let from = begins bs long in (
       rw (whole, eq-eqb (get_or bs 0 0 / 16) 1 c.if-first-ne1.false, ← c.in_default-counts_fault.ensures.value),
