@@ -9,13 +9,12 @@ invariant_of-self c =
     let t = c.args.self.now in
     let row = c.args.row in
     let h : t.len < length t.rows = omega arith in
-    let g : t.len < length t.places = omega arith in (
-      (omega arith, omega (arith, length-set t.rows t.len row), omega (arith, length-set t.places t.len 1)),
-      (
-        grown_keeps framed_kind (framed_store t) row c.requires.good h,
-        (grown_placed framed_kind (framed_store t) row c.requires.good h g, tt),
-      ),
-    )
+    let g : t.len < length t.places = omega arith in
+    record {
+      fits = (omega arith, omega (arith, length-set t.rows t.len row), omega (arith, length-set t.places t.len 1));
+      keeps = grown_keeps framed_kind (framed_store t) row c.requires.good h;
+      placed = grown_placed framed_kind (framed_store t) row c.requires.good h g;
+    }
 
 pub returns : goal.returns
 returns c =
