@@ -16,9 +16,9 @@ fn first_mark(old: u8, mark: u8) -> u8
 
 // Marks the ranks that a task uses and that have no mark yet.
 fn mark_task<G: Group>(group: &G, task: u16, scratch: &mut [u8])
-    requires task { (task < 64) × (task < length (tasks group.now)) }
+    requires task { (task < 64) × (task < length (G.tasks group.now)) }
     requires room { 256 ≤ length scratch.old }
-    ensures { MarkedBy (at (tasks group.now) task).classes (task + 1) scratch.old scratch.new }
+    ensures { MarkedBy (at (G.tasks group.now) task).classes (task + 1) scratch.old scratch.new }
 {
     for i in 0..group.class_count(task) {
         let rank = usize::from(group.terms(task, i + 1).rank);
@@ -28,9 +28,9 @@ fn mark_task<G: Group>(group: &G, task: u16, scratch: &mut [u8])
 
 // Writes the marks of all ranks into the first 256 bytes: 1 plus the lowest task that uses the rank, or 0.
 pub(crate) fn mark_ranks<G: Group>(group: &G, scratch: &mut [u8])
-    requires few { length (tasks group.now) ≤ 64 }
+    requires few { length (G.tasks group.now) ≤ 64 }
     requires room { 256 ≤ length scratch.old }
-    ensures { scratch.new ≡ marks (tasks group.now) ++ drop 256 scratch.old }
+    ensures { scratch.new ≡ marks (G.tasks group.now) ++ drop 256 scratch.old }
 {
     scratch[0..256].fill(0);
     for task in 0..group.count() {
@@ -48,9 +48,9 @@ fn lower(task: u16, mark: u8) -> u16
 
 // The lowest task that shares a rank with this one: itself, if no lower task does.
 fn lowest_sharer<G: Group>(group: &G, task: u16, scratch: &[u8]) -> u16
-    requires task { task < length (tasks group.now) }
-    requires marks { HoldsMarks (tasks group.now) scratch.now }
-    ensures { LowestSharer (tasks group.now) task result }
+    requires task { task < length (G.tasks group.now) }
+    requires marks { HoldsMarks (G.tasks group.now) scratch.now }
+    ensures { LowestSharer (G.tasks group.now) task result }
 {
     let mut lowest = task;
     for i in 0..group.class_count(task) {
@@ -81,8 +81,8 @@ fn keep(best: Option<(u16, u16)>, lowest: u16, task: u16) -> Option<(u16, u16)>
 
 // The first two tasks that share a rank: the lowest first, then the lowest second.
 pub(crate) fn shared_pair<G: Group>(group: &G, scratch: &[u8]) -> Option<(u16, u16)>
-    requires { HoldsMarks (tasks group.now) scratch.now }
-    ensures { result ≡ first_pair (sharing (tasks group.now)) (length (tasks group.now)) (λ _. length (tasks group.now)) }
+    requires { HoldsMarks (G.tasks group.now) scratch.now }
+    ensures { result ≡ first_pair (sharing (G.tasks group.now)) (length (G.tasks group.now)) (λ _. length (G.tasks group.now)) }
 {
     let mut best = None;
     for task in 0..group.count() {

@@ -13,10 +13,10 @@ use group::Group;
 
 // Whether a class has a bound.
 fn is_bounded<G: Group>(group: &G, task: u16, class: u8) -> bool
-    requires few { (1 ≤ length (tasks group.now)) × (length (tasks group.now) ≤ 64) }
-    requires task { task < length (tasks group.now) }
-    requires class { Class (at (tasks group.now) task) class }
-    ensures { result ≡ is_some (bound (tasks group.now) task class) }
+    requires few { (1 ≤ length (G.tasks group.now)) × (length (G.tasks group.now) ≤ 64) }
+    requires task { task < length (G.tasks group.now) }
+    requires class { Class (at (G.tasks group.now) task) class }
+    ensures { result ≡ is_some (bound (G.tasks group.now) task class) }
 {
     match bound_of(group, task, class) {
         Ok(Some(_)) => true,
@@ -26,10 +26,10 @@ fn is_bounded<G: Group>(group: &G, task: u16, class: u8) -> bool
 
 // Whether a class must have a bound and has none.
 fn lacks_bound<G: Group>(group: &G, task: u16, class: u8) -> bool
-    requires few { (1 ≤ length (tasks group.now)) × (length (tasks group.now) ≤ 64) }
-    requires task { task < length (tasks group.now) }
-    requires class { Class (at (tasks group.now) task) class }
-    ensures { result ≡ lacking (tasks group.now) task class }
+    requires few { (1 ≤ length (G.tasks group.now)) × (length (G.tasks group.now) ≤ 64) }
+    requires task { task < length (G.tasks group.now) }
+    requires class { Class (at (G.tasks group.now) task) class }
+    ensures { result ≡ lacking (G.tasks group.now) task class }
 {
     !group.terms(task, class).tolerated && !is_bounded(group, task, class)
 }
@@ -46,9 +46,9 @@ fn or_class(found: Option<u8>, lacks: bool, class: u8) -> Option<u8>
 
 // The lowest class of a task that must have a bound and has none.
 fn lowest_lacking<G: Group>(group: &G, task: u16) -> Option<u8>
-    requires few { (1 ≤ length (tasks group.now)) × (length (tasks group.now) ≤ 64) }
-    requires task { task < length (tasks group.now) }
-    ensures { result ≡ option_map suc (first (λ j. lacking (tasks group.now) task (suc j)) (length (at (tasks group.now) task).classes)) }
+    requires few { (1 ≤ length (G.tasks group.now)) × (length (G.tasks group.now) ≤ 64) }
+    requires task { task < length (G.tasks group.now) }
+    ensures { result ≡ option_map suc (first (λ j. lacking (G.tasks group.now) task (suc j)) (length (at (G.tasks group.now) task).classes)) }
 {
     let mut found = None;
     for i in 0..group.class_count(task) {
@@ -59,8 +59,8 @@ fn lowest_lacking<G: Group>(group: &G, task: u16) -> Option<u8>
 
 // The refusal of the lowest task with such a class.
 pub(crate) fn unbounded<G: Group>(group: &G) -> Option<Denial>
-    requires few { (1 ≤ length (tasks group.now)) × (length (tasks group.now) ≤ 64) }
-    ensures { result ≡ unbounded_fault (tasks group.now) }
+    requires few { (1 ≤ length (G.tasks group.now)) × (length (G.tasks group.now) ≤ 64) }
+    ensures { result ≡ unbounded_fault (G.tasks group.now) }
 {
     for task in 0..group.count() {
         if let Some(class) = lowest_lacking(group, task) {

@@ -14,7 +14,7 @@ use work::{own_work, requests};
 
 // Refuses a group that has no task, or more than 64.
 pub fn check_count<G: Group>(group: &G) -> Result<(), Denial>
-    ensures { result ≡ unless (count_fault (tasks group.now)) tt }
+    ensures { result ≡ unless (count_fault (G.tasks group.now)) tt }
 {
     let count = group.count();
     if count == 0 || count > 64 {
@@ -25,7 +25,7 @@ pub fn check_count<G: Group>(group: &G) -> Result<(), Denial>
 
 // And a task number that is not below the count.
 pub fn check_task<G: Group>(group: &G, task: u16) -> Result<(), Denial>
-    ensures { result ≡ unless (task_fault (tasks group.now) task) tt }
+    ensures { result ≡ unless (task_fault (G.tasks group.now) task) tt }
 {
     check_count(group)?;
     if task >= group.count() {
@@ -36,7 +36,7 @@ pub fn check_task<G: Group>(group: &G, task: u16) -> Result<(), Denial>
 
 // And a class number that the task does not have.
 fn check_class<G: Group>(group: &G, task: u16, class: u8) -> Result<(), Denial>
-    ensures { result ≡ unless (class_fault (tasks group.now) task class) tt }
+    ensures { result ≡ unless (class_fault (G.tasks group.now) task class) tt }
 {
     check_task(group, task)?;
     if class == 0 || class > group.class_count(task) {
@@ -48,10 +48,10 @@ fn check_class<G: Group>(group: &G, task: u16, class: u8) -> Result<(), Denial>
 // The least number of ticks that is enough, if any up to the gap is. Ticks grow to what was asked for within them, until they are
 // enough: what is asked for never falls as they grow, so none in between is enough.
 fn least_enough<G: Group>(group: &G, task: u16, class: u8) -> Option<u16>
-    requires few { length (tasks group.now) ≤ 64 }
-    requires task { task < length (tasks group.now) }
-    requires class { Class (at (tasks group.now) task) class }
-    ensures { result ≡ bound (tasks group.now) task class }
+    requires few { length (G.tasks group.now) ≤ 64 }
+    requires task { task < length (G.tasks group.now) }
+    requires class { Class (at (G.tasks group.now) task) class }
+    ensures { result ≡ bound (G.tasks group.now) task class }
 {
     let rank = group.terms(task, class).rank;
     let gap = group.gap(task);
@@ -69,8 +69,8 @@ fn least_enough<G: Group>(group: &G, task: u16, class: u8) -> Option<u16>
 
 // The bound of a class of a task, none where there is none.
 pub fn bound<G: Group>(group: &G, task: u16, class: u8) -> Result<Option<u16>, Denial>
-    ensures result { result ≡ bound_answer (tasks group.now) task class }
-    ensures says { IfOk result (SaysBound (tasks group.now) task class) }
+    ensures result { result ≡ bound_answer (G.tasks group.now) task class }
+    ensures says { IfOk result (SaysBound (G.tasks group.now) task class) }
 {
     check_class(group, task, class)?;
     Ok(least_enough(group, task, class))

@@ -22,7 +22,7 @@ fn at_least(least: u8, terms: Terms) -> u16
 
 // The largest budget among the classes of a task ranked `least` or higher.
 fn largest_budget<G: Group>(group: &G, task: u16, least: u8) -> u16
-    ensures { result ≡ largest least (at (tasks group.now) task).classes }
+    ensures { result ≡ largest least (at (G.tasks group.now) task).classes }
 {
     let mut most = 0;
     for i in 0..group.class_count(task) {
@@ -33,7 +33,7 @@ fn largest_budget<G: Group>(group: &G, task: u16, least: u8) -> u16
 
 // The largest budget among the classes of a task ranked as high as one of them.
 pub(crate) fn own_work<G: Group>(group: &G, task: u16, class: u8) -> u16
-    ensures { result ≡ largest (terms_of (at (tasks group.now) task) class).rank (at (tasks group.now) task).classes }
+    ensures { result ≡ largest (terms_of (at (G.tasks group.now) task) class).rank (at (G.tasks group.now) task).classes }
 {
     let rank = group.terms(task, class).rank;
     largest_budget(group, task, rank)
@@ -41,8 +41,8 @@ pub(crate) fn own_work<G: Group>(group: &G, task: u16, class: u8) -> u16
 
 // What another task can ask for above a rank within `ticks` ticks; task `own` asks for nothing here.
 fn one_request<G: Group>(group: &G, own: u16, ticks: u16, rank: u8, i: u16) -> u32
-    requires { (i < length (tasks group.now)) × (ticks ≤ 4095) }
-    ensures { result ≡ request (tasks group.now) own ticks rank i }
+    requires { (i < length (G.tasks group.now)) × (ticks ≤ 4095) }
+    ensures { result ≡ request (G.tasks group.now) own ticks rank i }
 {
     if i == own {
         0
@@ -53,8 +53,8 @@ fn one_request<G: Group>(group: &G, own: u16, ticks: u16, rank: u8, i: u16) -> u
 
 // What all other tasks can ask for above a rank within `ticks` ticks.
 pub(crate) fn requests<G: Group>(group: &G, own: u16, ticks: u16, rank: u8) -> u32
-    requires { (length (tasks group.now) ≤ 64) × (ticks ≤ 4095) }
-    ensures value { result ≡ sum (length (tasks group.now)) (request (tasks group.now) own ticks rank) }
+    requires { (length (G.tasks group.now) ≤ 64) × (ticks ≤ 4095) }
+    ensures value { result ≡ sum (length (G.tasks group.now)) (request (G.tasks group.now) own ticks rank) }
     ensures small { result ≤ 64 * (4095 * 4095) }
 {
     let mut total = 0;

@@ -36,7 +36,7 @@ fn seen(slot: Slot, clock: u32) -> View
 impl<G: Group> Dispatcher<G> {
     // Why a release of a task is refused, if it is.
     fn check_release(&self, task: u16) -> Result<(), Denial>
-        ensures { result ≡ release_answer (tasks self.now.group) (state places self.now) task }
+        ensures { result ≡ release_answer (G.tasks self.now.group) (state G.places self.now) task }
     {
         let count = self.group.count();
         check_started(self.started, count)?;
@@ -46,16 +46,16 @@ impl<G: Group> Dispatcher<G> {
 
     // The present class of a task.
     fn class_now(&self, task: u16) -> u8
-        ensures { result ≡ (at (tasks self.now.group) task).class_at (place (places self.now.group) task) }
+        ensures { result ≡ (at (G.tasks self.now.group) task).class_at (place (G.places self.now.group) task) }
     {
         self.group.present_class(task)
     }
 
     // Releases a task: a job of its present class, with nothing used.
     pub fn release(&mut self, task: u16) -> Result<(), Denial>
-        ensures result { result ≡ release_answer (tasks self.old.group) (state places self.old) task }
-        ensures state { state places self.new ≡ kept_if (release_fault (tasks self.old.group) (state places self.old) task)
-            (state places self.old) (released (tasks self.old.group) task (state places self.old)) }
+        ensures result { result ≡ release_answer (G.tasks self.old.group) (state G.places self.old) task }
+        ensures state { state G.places self.new ≡ kept_if (release_fault (G.tasks self.old.group) (state G.places self.old) task)
+            (state G.places self.old) (released (G.tasks self.old.group) task (state G.places self.old)) }
         ensures group { self.new.group ≡ self.old.group }
         ensures refused { OnErr result (self.new ≡ self.old) }
     {
@@ -70,7 +70,7 @@ impl<G: Group> Dispatcher<G> {
 
     // Why a resume of a task is refused, if it is.
     fn check_resume(&self, task: u16) -> Result<(), Denial>
-        ensures { result ≡ resume_answer (tasks self.now.group) (state places self.now) task }
+        ensures { result ≡ resume_answer (G.tasks self.now.group) (state G.places self.now) task }
     {
         let count = self.group.count();
         check_started(self.started, count)?;
@@ -80,9 +80,9 @@ impl<G: Group> Dispatcher<G> {
 
     // Resumes a halted task; the gap still counts from its last release.
     pub fn resume(&mut self, task: u16) -> Result<(), Denial>
-        ensures result { result ≡ resume_answer (tasks self.old.group) (state places self.old) task }
-        ensures state { state places self.new ≡ kept_if (resume_fault (tasks self.old.group) (state places self.old) task)
-            (state places self.old) (resumed task (state places self.old)) }
+        ensures result { result ≡ resume_answer (G.tasks self.old.group) (state G.places self.old) task }
+        ensures state { state G.places self.new ≡ kept_if (resume_fault (G.tasks self.old.group) (state G.places self.old) task)
+            (state G.places self.old) (resumed task (state G.places self.old)) }
         ensures group { self.new.group ≡ self.old.group }
         ensures refused { OnErr result (self.new ≡ self.old) }
     {
@@ -95,7 +95,7 @@ impl<G: Group> Dispatcher<G> {
 
     // Where a task stands; a pending job with its class, its age and the ticks in which it ran.
     pub fn slot(&self, task: u16) -> Result<View, Denial>
-        ensures { result ≡ slot_answer (tasks self.now.group) (state places self.now) task }
+        ensures { result ≡ slot_answer (G.tasks self.now.group) (state G.places self.now) task }
     {
         check_task(&self.group, task)?;
         Ok(seen(self.table.seat(task).slot, self.clock))

@@ -36,10 +36,10 @@ impl<G: Group> Dispatcher<G> {
 
     // Judges a start, and marks the ranks in use.
     fn judge(&self, scratch: &mut [u8]) -> Result<(), Denial>
-        ensures result { result ≡ unless (start_fault self.now.started (length scratch.old) (tasks self.now.group)) tt }
-        ensures scratch { scratch.new ≡ scratch_after (early_fault self.now.started (length scratch.old) (tasks self.now.group))
-            (tasks self.now.group) scratch.old }
-        ensures law { StartLaw self.now.started (length scratch.old) (tasks self.now.group) result }
+        ensures result { result ≡ unless (start_fault self.now.started (length scratch.old) (G.tasks self.now.group)) tt }
+        ensures scratch { scratch.new ≡ scratch_after (early_fault self.now.started (length scratch.old) (G.tasks self.now.group))
+            (G.tasks self.now.group) scratch.old }
+        ensures law { StartLaw self.now.started (length scratch.old) (G.tasks self.now.group) result }
     {
         admit(&self.group, self.started, scratch)
     }
@@ -47,14 +47,14 @@ impl<G: Group> Dispatcher<G> {
     // Starts the dispatcher, or refuses. The scratch, one byte for each rank, then holds the marks of the ranks in use,
     // unless the start was refused before it looked at ranks.
     pub fn start(&mut self, scratch: &mut [u8]) -> Result<(), Denial>
-        ensures result { result ≡ unless (start_fault self.old.started (length scratch.old) (tasks self.old.group)) tt }
-        ensures scratch { scratch.new ≡ scratch_after (early_fault self.old.started (length scratch.old) (tasks self.old.group))
-            (tasks self.old.group) scratch.old }
+        ensures result { result ≡ unless (start_fault self.old.started (length scratch.old) (G.tasks self.old.group)) tt }
+        ensures scratch { scratch.new ≡ scratch_after (early_fault self.old.started (length scratch.old) (G.tasks self.old.group))
+            (G.tasks self.old.group) scratch.old }
         ensures after { MatchResult result (λ _. self.new.started ≡ true) (λ _. self.new ≡ self.old) }
         ensures group { self.new.group ≡ self.old.group }
         ensures table { self.new.table ≡ self.old.table }
         ensures clock { self.new.clock ≡ self.old.clock }
-        ensures law { StartLaw self.old.started (length scratch.old) (tasks self.old.group) result }
+        ensures law { StartLaw self.old.started (length scratch.old) (G.tasks self.old.group) result }
     {
         if let Err(denial) = self.judge(scratch) {
             return Err(denial);
@@ -65,8 +65,8 @@ impl<G: Group> Dispatcher<G> {
 
     // The bound of a class of a task, none where there is none.
     pub fn bound(&self, task: u16, class: u8) -> Result<Option<u16>, Denial>
-        ensures result { result ≡ bound_answer (tasks self.now.group) task class }
-        ensures says { IfOk result (SaysBound (tasks self.now.group) task class) }
+        ensures result { result ≡ bound_answer (G.tasks self.now.group) task class }
+        ensures says { IfOk result (SaysBound (G.tasks self.now.group) task class) }
     {
         bound_of(&self.group, task, class)
     }

@@ -72,7 +72,7 @@ fn numbered(place: Option<usize>) -> Option<u16>
 impl<G: Group> Dispatcher<G> {
     // The rank of a task's pending job.
     fn rank(&self, task: u16) -> Option<ByRank>
-        ensures { result ≡ rank_key (at (tasks self.now.group) task) (slice_index_or self.now.table.seats task new_seat).slot }
+        ensures { result ≡ rank_key (at (G.tasks self.now.group) task) (slice_index_or self.now.table.seats task new_seat).slot }
     {
         match self.table.seat(task).slot {
             Slot::Pending { class, .. } => Some(ByRank {
@@ -84,7 +84,7 @@ impl<G: Group> Dispatcher<G> {
 
     // The ticks that a task's pending job has left.
     fn left(&self, task: u16) -> Option<ByExpiry>
-        ensures { result ≡ expiry_key (at (tasks self.now.group) task).gap task self.now.clock (slice_index_or self.now.table.seats task new_seat).slot }
+        ensures { result ≡ expiry_key (at (G.tasks self.now.group) task).gap task self.now.clock (slice_index_or self.now.table.seats task new_seat).slot }
     {
         left_of(
             self.group.gap(task),
@@ -96,8 +96,8 @@ impl<G: Group> Dispatcher<G> {
 
     // The ranks of all pending jobs.
     fn ranks(&self) -> [Option<ByRank>; 64]
-        ensures { KeysOf (λ i. rank_key (at (tasks self.now.group) i) (slice_index_or self.now.table.seats i new_seat).slot)
-            (length (tasks self.now.group)) result }
+        ensures { KeysOf (λ i. rank_key (at (G.tasks self.now.group) i) (slice_index_or self.now.table.seats i new_seat).slot)
+            (length (G.tasks self.now.group)) result }
     {
         let mut keys = [None; 64];
         for task in 0..self.group.count().min(64) {
@@ -108,8 +108,8 @@ impl<G: Group> Dispatcher<G> {
 
     // The ticks left of all pending jobs.
     fn all_left(&self) -> [Option<ByExpiry>; 64]
-        ensures { KeysOf (λ i. expiry_key (at (tasks self.now.group) i).gap i self.now.clock (slice_index_or self.now.table.seats i new_seat).slot)
-            (length (tasks self.now.group)) result }
+        ensures { KeysOf (λ i. expiry_key (at (G.tasks self.now.group) i).gap i self.now.clock (slice_index_or self.now.table.seats i new_seat).slot)
+            (length (G.tasks self.now.group)) result }
     {
         let mut keys = [None; 64];
         for task in 0..self.group.count().min(64) {
@@ -120,14 +120,14 @@ impl<G: Group> Dispatcher<G> {
 
     // The task that would run next: the one whose pending job has the highest rank; none when idle.
     pub fn next_to_run(&self) -> Option<u16>
-        ensures { result ≡ next_answer (tasks self.now.group) (state places self.now) }
+        ensures { result ≡ next_answer (G.tasks self.now.group) (state G.places self.now) }
     {
         numbered(foremost(&self.ranks()))
     }
 
     // The task whose pending job expires next: the one with the fewest ticks left, the lower task on a tie; none when idle.
     pub fn next_expiry(&self) -> Option<u16>
-        ensures { result ≡ expiry_answer (tasks self.now.group) (state places self.now) }
+        ensures { result ≡ expiry_answer (G.tasks self.now.group) (state G.places self.now) }
     {
         numbered(foremost(&self.all_left()))
     }

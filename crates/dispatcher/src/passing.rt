@@ -85,8 +85,8 @@ impl Table {
 
 // Settles a task whose job has ended so, if it has.
 fn settle<G: Group>(group: &mut G, task: u16, way: Option<Way>)
-    ensures tasks { tasks group.new ≡ tasks group.old }
-    ensures places { places group.new ≡ slice_set (places group.old) task (settled_place (at (tasks group.old) task) way (place (places group.old) task)) }
+    ensures tasks { G.tasks group.new ≡ G.tasks group.old }
+    ensures places { G.places group.new ≡ slice_set (G.places group.old) task (settled_place (at (G.tasks group.old) task) way (place (G.places group.old) task)) }
 {
     if let Some(ended) = way {
         group.settle(task, outcome_for(ended));
@@ -106,12 +106,12 @@ fn pass_task<G: Group>(
     requires clock { clock < 4294967295 }
     requires used { used_of (get_or table.old.seats task new_seat).slot < 4294967295 }
     ensures seats { table.new.seats ≡ set table.old.seats task
-        (tick_seat (at (tasks group.old) task) clock runs mark (slice_index_or table.old.seats task new_seat)) }
-    ensures tasks { tasks group.new ≡ tasks group.old }
-    ensures places { places group.new ≡ slice_set (places group.old) task (settled_place (at (tasks group.old) task)
-        (way_of (at (tasks group.old) task) clock runs mark (get_or table.old.seats task new_seat).slot) (place (places group.old) task)) }
+        (tick_seat (at (G.tasks group.old) task) clock runs mark (slice_index_or table.old.seats task new_seat)) }
+    ensures tasks { G.tasks group.new ≡ G.tasks group.old }
+    ensures places { G.places group.new ≡ slice_set (G.places group.old) task (settled_place (at (G.tasks group.old) task)
+        (way_of (at (G.tasks group.old) task) clock runs mark (get_or table.old.seats task new_seat).slot) (place (G.places group.old) task)) }
     ensures end { listed result ≡ end_record task clock (get_or table.old.seats task new_seat).slot
-        (way_of (at (tasks group.old) task) clock runs mark (get_or table.old.seats task new_seat).slot) }
+        (way_of (at (G.tasks group.old) task) clock runs mark (get_or table.old.seats task new_seat).slot) }
 {
     let slot = table.seat(task).slot;
     let terms = group.terms(task, class_in(slot));
@@ -144,16 +144,16 @@ pub(crate) fn pass_all<G: Group>(
     mark: bool,
     ends: &mut [End],
 ) -> usize
-    requires few { length (tasks group.old) ≤ 64 }
+    requires few { length (G.tasks group.old) ≤ 64 }
     requires clock { clock < 4294967295 }
     requires steady { Steady table.old.seats clock }
-    requires room { pending_count (tasks group.old) (state_of clock true (places group.old) table.old.seats) ≤ length ends.old }
-    ensures tasks { tasks group.new ≡ tasks group.old }
-    ensures passed { Passed (tasks group.old) clock mark ran (length (tasks group.old)) table.old.seats table.new.seats
-        (places group.old) (places group.new) }
-    ensures count { result ≡ length (ends_upto (tasks group.old) (state_of clock true (places group.old) table.old.seats) mark ran (length (tasks group.old))) }
-    ensures ends { ends.new ≡ ends_upto (tasks group.old) (state_of clock true (places group.old) table.old.seats) mark ran
-        (length (tasks group.old)) ++ drop result ends.old }
+    requires room { pending_count (G.tasks group.old) (state_of clock true (G.places group.old) table.old.seats) ≤ length ends.old }
+    ensures tasks { G.tasks group.new ≡ G.tasks group.old }
+    ensures passed { Passed (G.tasks group.old) clock mark ran (length (G.tasks group.old)) table.old.seats table.new.seats
+        (G.places group.old) (G.places group.new) }
+    ensures count { result ≡ length (ends_upto (G.tasks group.old) (state_of clock true (G.places group.old) table.old.seats) mark ran (length (G.tasks group.old))) }
+    ensures ends { ends.new ≡ ends_upto (G.tasks group.old) (state_of clock true (G.places group.old) table.old.seats) mark ran
+        (length (G.tasks group.old)) ++ drop result ends.old }
 {
     let mut count = 0;
     for task in 0..group.count() {

@@ -28,7 +28,7 @@ fn one_pending(slot: Slot) -> usize
 impl<G: Group> Dispatcher<G> {
     // How many jobs are pending.
     fn pending(&self) -> usize
-        ensures { result ≡ pending_count (tasks self.now.group) (state places self.now) }
+        ensures { result ≡ pending_count (G.tasks self.now.group) (state G.places self.now) }
     {
         let mut count = 0;
         for task in 0..self.group.count() {
@@ -39,7 +39,7 @@ impl<G: Group> Dispatcher<G> {
 
     // Why a tick is refused, if it is.
     fn check_tick(&self, finish: bool, room: usize) -> Result<(), Denial>
-        ensures { result ≡ unless (tick_fault (tasks self.now.group) (state places self.now) finish room) tt }
+        ensures { result ≡ unless (tick_fault (G.tasks self.now.group) (state G.places self.now) finish room) tt }
     {
         check_started(self.started, self.group.count())?;
         check_room(self.clock, finish, self.pending(), room)
@@ -48,11 +48,11 @@ impl<G: Group> Dispatcher<G> {
     // Lets a tick pass: the pending job of the highest rank runs, with the finish mark it is finished, at its budget it is cut, and
     // jobs as old as their gap are late. Gives the task that ran and the number of ends, whose records fill the front of the list.
     pub fn tick(&mut self, finish: bool, ends: &mut [End]) -> Result<(Option<u16>, usize), Denial>
-        ensures result { result ≡ tick_answer (tasks self.old.group) (state places self.old) finish (length ends.old) }
-        ensures state { state places self.new ≡ tick_state (tasks self.old.group) (state places self.old) finish (length ends.old) }
-        ensures tasks { tasks self.new.group ≡ tasks self.old.group }
-        ensures ends { Listed (tick_fault (tasks self.old.group) (state places self.old) finish (length ends.old))
-            (tick_ends (tasks self.old.group) (state places self.old) finish) ends.old ends.new }
+        ensures result { result ≡ tick_answer (G.tasks self.old.group) (state G.places self.old) finish (length ends.old) }
+        ensures state { state G.places self.new ≡ tick_state (G.tasks self.old.group) (state G.places self.old) finish (length ends.old) }
+        ensures tasks { G.tasks self.new.group ≡ G.tasks self.old.group }
+        ensures ends { Listed (tick_fault (G.tasks self.old.group) (state G.places self.old) finish (length ends.old))
+            (tick_ends (G.tasks self.old.group) (state G.places self.old) finish) ends.old ends.new }
         ensures refused { OnErr result (self.new ≡ self.old) }
     {
         if let Err(denial) = self.check_tick(finish, ends.len()) {

@@ -8,10 +8,9 @@ use Rattle.std.proofs.lemmas.Bool.{le-ltb, eqb-false, ltb-false}
 use Rattle.denial.specs.declared.Rule.TheVariants.{RowCounts, Room}
 use Rattle.denial.specs.Numbers.{denied}
 use Rattle.denial.specs.declared.Denial.{Denial}
-use Rattle.denial.specs.Checks.{when, unless}
-use Rattle.plate.specs.Faults.{counted_fault, framed_fault}
+use Rattle.plate.specs.Faults.{when, counted_fault, framed_fault}
 use Rattle.plate.specs.Rows.{Counted, Framed}
-use Rattle.plate.specs.Plans.{counts_fault, header_bytes, SoundCounted, SoundFramed, counted_bytes, framed_bytes, encode}
+use Rattle.plate.specs.Plans.{unless, counts_fault, header_bytes, SoundCounted, SoundFramed, counted_bytes, framed_bytes, encode}
 use Rattle.plate.specs.Writing.{put_at, left, room_fault}
 use Rattle.plate.proofs.Counteds
 use Rattle.plate.proofs.Frameds
@@ -27,10 +26,6 @@ bytes_at f rows i x l stands = get_or-map f rows i x [] l ∙ ap f (stands x)
 
 pub bytes_past : {X : Type 0} (f : X → List ℕ) (rows : List X) (i : ℕ) → length rows ≤ i → slice_index_or (map f rows) i [] ≡ []
 bytes_past f rows i h = get_or_past (map f rows) i [] (rw (length-map rows f) h)
-
--- as many lists of bytes as rows
-pub bytes_number : {X : Type 0} (f : X → List ℕ) (rows : List X) (n : ℕ) → n ≡ length rows → n ≡ length (map f rows)
-bytes_number f rows n e = e ∙ sym (length-map rows f)
 
 -- no row has more than 26 bytes
 pub bytes_short : {X : Type 0} (f : X → List ℕ) (P : X → Type 0) → ((x : X) → P x → length (f x) ≤ 26) → (rows : List X) → All P rows

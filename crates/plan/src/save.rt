@@ -1,10 +1,8 @@
 // Saving two tables as a plate.
-ghost use Rattle.std.specs.Prelude.{◌≡◌, ℕ, ◌+◌, ◌^◌, ◌<◌, ◌≤◌, List, [], map, length, take, Ok, slice_index_or};
-ghost use Rattle.denial.specs.Checks.{unless};
-ghost use Rattle.plate.specs.Plans.{counted_bytes, framed_bytes, encode, decode, SoundCounted, SoundFramed};
+ghost use Rattle.std.specs.Prelude.{◌≡◌, ℕ, ◌+◌, ◌^◌, ◌<◌, ◌≤◌, List, [], map, length, Ok, slice_index_or};
+ghost use Rattle.plate.specs.Plans.{unless, counted_bytes, framed_bytes, encode, decode, SoundCounted, SoundFramed};
 ghost use Rattle.plate.specs.Writing.{put_at, left, Then};
 ghost use Rattle.kinds.specs.Listed.{counted_rows, framed_rows};
-ghost use Rattle.kinds.specs.Rows.{GoodCounted, GoodFramed};
 ghost use Rattle.plan.specs.Loads.{plan_of};
 ghost use Rattle.plan.specs.Saves.{save_refusal, save_fault, concat};
 ghost use Rattle.std.proofs.lemmas.List.{length-map};
@@ -12,13 +10,15 @@ ghost use Rattle.kinds.proofs.Listed.{counted_few, counted_sound, framed_few, fr
 ghost use Rattle.plan.specs.Saved.{bytes_short, counted_short, framed_short};
 
 use denial::{Denial, Rule};
-use kinds::{FrameRow, FrameTable, MissCountedRow, MissCountedTable};
-use plate::frame::Frame;
+use kinds::{FrameTable, MissCountedTable};
 use plate::writer::{write_frames, write_header, write_miss_counted};
 
 // Rows of either kind, by their bytes on a plate.
 trait Rows {
     ghost bytes: { Self → List (List ℕ) };
+
+    fn number(&self) -> u8
+        ensures { result ≡ length (bytes self.now) };
 
     // How many bytes a row takes; none past the last.
     fn row_size(&self, i: u16) -> usize
@@ -35,50 +35,30 @@ trait Rows {
     ghost short: { (t : Self) (i : ℕ) → length (slice_index_or (bytes t) i []) ≤ 26 };
 }
 
-// How many bytes all rows take, if there are `number`.
-fn size_of<T: Rows>(rows: &T, number: u8) -> usize
-    requires { number ≡ length (T.Rows.bytes rows.now) }
+// How many bytes all rows take.
+fn size_of<T: Rows>(rows: &T) -> usize
     ensures value { result ≡ length (concat (T.Rows.bytes rows.now)) }
     ensures small { result ≤ 416 }
 {
     let mut size = 0;
-    for i in 0..u16::from(number) {
+    for i in 0..u16::from(rows.number()) {
         size += rows.row_size(i);
     }
     size
 }
 
-// Writes all rows, if there are `number`, one after another, and gives the byte after the last.
-fn write_all<T: Rows>(rows: &T, number: u8, out: &mut [u8], at: usize) -> usize
-    requires number { number ≡ length (T.Rows.bytes rows.now) }
-    requires room { at + length (concat (T.Rows.bytes rows.now)) ≤ length out.old }
+// Writes all rows one after another, and gives the byte after the last.
+fn write_all<T: Rows>(rows: &T, out: &mut [u8], at: usize) -> usize
+    requires { at + length (concat (T.Rows.bytes rows.now)) ≤ length out.old }
     ensures end { result ≡ at + length (concat (T.Rows.bytes rows.now)) }
     ensures out { out.new ≡ put_at out.old at (concat (T.Rows.bytes rows.now)) }
 {
     let mut end = at;
-    for i in 0..u16::from(number) {
+    for i in 0..u16::from(rows.number()) {
         rows.write_row(i, out, end);
         end += rows.row_size(i);
     }
     end
-}
-
-// The ranks of a row's classes.
-fn row_ranks(row: &MissCountedRow) -> &[u8]
-    requires { GoodCounted row.now }
-    ensures { result.now ≡ take (row.now.misses + 1) row.now.ranks }
-{
-    let classes = usize::from(row.misses) + 1;
-    &row.ranks[0..classes]
-}
-
-// The frames of a row's cycle.
-fn row_frames(row: &FrameRow) -> &[Frame]
-    requires { GoodFramed row.now }
-    ensures { result.now ≡ take row.now.count row.now.frames }
-{
-    let count = usize::from(row.count);
-    &row.frames[0..count]
 }
 
 impl Rows for MissCountedTable {
@@ -88,16 +68,21 @@ impl Rows for MissCountedTable {
 
     ghost short = { λ t i. bytes_short counted_bytes SoundCounted counted_short (counted_rows t) (counted_sound t) i };
 
+    fn number(&self) -> u8 {
+        self.len()
+    }
+
     fn row_size(&self, i: u16) -> usize {
         match self.row(i) {
-            Some(row) => 4 + row_ranks(row).len(),
+            Some(row) => 5 + usize::from(row.misses),
             None => 0,
         }
     }
 
     fn write_row(&self, i: u16, out: &mut [u8], at: usize) {
         if let Some(row) = self.row(i) {
-            let _ = write_miss_counted(out, at, row.gap, row.budget, row_ranks(row));
+            let n = usize::from(row.misses) + 1;
+            let _ = write_miss_counted(out, at, row.gap, row.budget, &row.ranks[0..n]);
         }
     }
 }
@@ -109,16 +94,21 @@ impl Rows for FrameTable {
 
     ghost short = { λ t i. bytes_short framed_bytes SoundFramed framed_short (framed_rows t) (framed_sound t) i };
 
+    fn number(&self) -> u8 {
+        self.len()
+    }
+
     fn row_size(&self, i: u16) -> usize {
         match self.row(i) {
-            Some(row) => 2 + 3 * row_frames(row).len(),
+            Some(row) => 2 + 3 * usize::from(row.count),
             None => 0,
         }
     }
 
     fn write_row(&self, i: u16, out: &mut [u8], at: usize) {
         if let Some(row) = self.row(i) {
-            let _ = write_frames(out, at, row.gap, row_frames(row));
+            let n = usize::from(row.count);
+            let _ = write_frames(out, at, row.gap, &row.frames[0..n]);
         }
     }
 }
@@ -149,14 +139,12 @@ pub fn save(
     ensures out { out.new ≡ left result out.old 0 (encode (plan_of counted.now frames.now)) }
     ensures back { Then result (decode (encode (plan_of counted.now frames.now)) ≡ Ok (plan_of counted.now frames.now)) }
 {
-    let counted_len = counted.len();
-    let frames_len = frames.len();
-    let size = 2 + size_of(counted, counted_len) + size_of(frames, frames_len);
-    if let Some(denial) = refusal(counted_len + frames_len, size, out.len()) {
+    let size = 2 + size_of(counted) + size_of(frames);
+    if let Some(denial) = refusal(counted.len() + frames.len(), size, out.len()) {
         return Err(denial);
     }
-    let _ = write_header(out, counted_len, frames_len);
-    let at = write_all(counted, counted_len, out, 2);
-    write_all(frames, frames_len, out, at);
+    let _ = write_header(out, counted.len(), frames.len());
+    let at = write_all(counted, out, 2);
+    write_all(frames, out, at);
     Ok(size)
 }

@@ -4,8 +4,8 @@ use Rattle.std.specs.Option.{option_or, option_map}
 use Rattle.denial.specs.declared.Denial.{Denial}
 use Rattle.denial.specs.declared.Rule.TheVariants.{Spare, Times, Ranks}
 use Rattle.denial.specs.Numbers.{denied}
-use Rattle.denial.specs.Checks.{when}
-use Rattle.find.specs.First.{first}
+pub use Rattle.denial.specs.Checks.{when}
+pub use Rattle.find.specs.First.{first}
 use Rattle.plate.specs.declared.frame.Frame.{Frame}
 
 -- what stands at i, and a frame of zeros past the end

@@ -7,7 +7,8 @@ use Rattle.denial.specs.declared.Rule.TheVariants.{Edition, RowCounts, Extra, Sh
 use Rattle.denial.specs.Numbers.{denied}
 use Rattle.plate.specs.declared.frame.Frame.{Frame}
 use Rattle.plate.specs.Bits.{field}
-use Rattle.denial.specs.Checks.{when, unless, past}
+use Rattle.denial.specs.Checks.{when}
+pub use Rattle.denial.specs.Checks.{unless, past}
 use Rattle.plate.specs.Rows.{Counted, Framed, short_fault, counted_denial, counted_at, counted_bits, framed_denial, framed_at, framed_bits}
 
 -- the rows of a plate, in their order

@@ -33,9 +33,9 @@ fn loaded(plate: &[u8]) -> Result<Plan, Denial>
 
 // Why a group of work cannot be started; the scratch is lent to the start.
 fn start_fault<G: Group + Drop>(group: G, scratch: &mut [u8; 256]) -> Option<Denial>
-    requires { FewTasks (tasks group) }
-    ensures fault { result ≡ plan_fault (tasks group) }
-    ensures scratch { scratch.new ≡ marks (tasks group) }
+    requires { FewTasks (G.tasks group) }
+    ensures fault { result ≡ plan_fault (G.tasks group) }
+    ensures scratch { scratch.new ≡ marks (G.tasks group) }
 {
     Dispatcher::new(group).start(scratch).err()
 }

@@ -11,8 +11,8 @@ use group::Group;
 
 // The bound of a class that is there.
 fn known_bound<G: Group>(group: &G, task: u16, class: u8) -> Option<u16>
-    requires { Listed (tasks group.now) task class }
-    ensures { result ≡ bound_of (tasks group.now) task class }
+    requires { Listed (G.tasks group.now) task class }
+    ensures { result ≡ bound_of (G.tasks group.now) task class }
 {
     match bound(group, task, class) {
         Ok(ticks) => ticks,
@@ -23,8 +23,8 @@ fn known_bound<G: Group>(group: &G, task: u16, class: u8) -> Option<u16>
 // The line of the class at an index of a task's classes.
 fn class_line<G: Group>(group: &G, task: u16, index: u8) -> Line
     requires few { index < 255 }
-    requires there { Listed (tasks group.now) task (index + 1) }
-    ensures { result ≡ line_of (tasks group.now) task (index + 1) }
+    requires there { Listed (G.tasks group.now) task (index + 1) }
+    ensures { result ≡ line_of (G.tasks group.now) task (index + 1) }
 {
     let class = index + 1;
     let terms = group.terms(task, class);
@@ -40,9 +40,9 @@ fn class_line<G: Group>(group: &G, task: u16, index: u8) -> Line
 // Puts the lines of a task.
 fn put_task<G: Group>(out: &mut [u8], at: usize, group: &G, task: u16) -> usize
     requires place { at < 2 ^ 57 }
-    requires few { length (tasks group.now) ≤ 64 }
-    requires there { task < length (tasks group.now) }
-    ensures put { Put out.old at (task_lines (tasks group.now) task) out.new result }
+    requires few { length (G.tasks group.now) ≤ 64 }
+    requires there { task < length (G.tasks group.now) }
+    ensures put { Put out.old at (task_lines (G.tasks group.now) task) out.new result }
     ensures few { result ≤ at + 240 }
 {
     let mut end = at;
@@ -55,8 +55,8 @@ fn put_task<G: Group>(out: &mut [u8], at: usize, group: &G, task: u16) -> usize
 // Puts the lines of all tasks.
 fn put_tasks<G: Group>(out: &mut [u8], at: usize, group: &G) -> usize
     requires place { at < 2 ^ 56 }
-    requires few { length (tasks group.now) ≤ 64 }
-    ensures put { Put out.old at (all_lines (tasks group.now)) out.new result }
+    requires few { length (G.tasks group.now) ≤ 64 }
+    ensures put { Put out.old at (all_lines (G.tasks group.now)) out.new result }
     ensures few { result ≤ at + 15360 }
 {
     let mut end = at;
@@ -68,8 +68,8 @@ fn put_tasks<G: Group>(out: &mut [u8], at: usize, group: &G) -> usize
 
 // Puts the names of the columns, and the lines of all tasks.
 pub(crate) fn put_group<G: Group>(out: &mut [u8], group: &G) -> usize
-    requires { length (tasks group.now) ≤ 64 }
-    ensures put { Put out.old 0 (heading ++ all_lines (tasks group.now)) out.new result }
+    requires { length (G.tasks group.now) ≤ 64 }
+    ensures put { Put out.old 0 (heading ++ all_lines (G.tasks group.now)) out.new result }
     ensures few { result ≤ 15389 }
 {
     let end = put_text(out, 0, b"task class rank budget bound\n");

@@ -28,7 +28,7 @@ loop-i-preserved g c =
     let i = c.loop-i.i in
     let more = concat_length xss i (omega arith) in (
       omega arith,
-      put_more c.args.out.now c.loop-i.out _ xss c.args.at i c.loop-i.end (omega arith) c.requires.room
+      put_more c.args.out.now c.loop-i.out _ xss c.args.at i c.loop-i.end (omega arith) c.requires
           c.loop-i.invariant.0 c.loop-i.invariant.1 c.write_row.ensures,
     )
 

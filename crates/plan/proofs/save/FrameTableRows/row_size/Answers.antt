@@ -1,4 +1,5 @@
-use Rattle.std.proofs.Common.{length, take, ap, arith}
+use Rattle.std.proofs.Common.{◌≡◌, ◌+◌, ◌*◌, ◌<◌, ◌≤◌, length, take, sym, ap, arith}
+use Rattle.std.proofs.lemmas.List.{length-take-le}
 use Rattle.plate.specs.Plans.{framed_bytes}
 use Rattle.plate.proofs.Frameds.{joined_length}
 use Rattle.kinds.specs.Listed.{framed_rows}
@@ -9,7 +10,8 @@ pub returns-in-Some : goal.returns-in-Some
 returns-in-Some c =
     let row = c.in-Some.ensures.row in
     let is = bytes_at framed_bytes (framed_rows c.args.self.now) c.args.i _ row.here row.stands in
-    rw is (omega (arith, joined_length (take c.in-Some.row.now.count c.in-Some.row.now.frames), ap length c.row_frames.ensures))
+    let good = row.keeps in
+    rw is (omega (arith, joined_length (take c.in-Some.row.now.count c.in-Some.row.now.frames), length-take-le c.in-Some.row.now.count c.in-Some.row.now.frames (omega arith)))
 
 pub returns-in-None : goal.returns-in-None
 returns-in-None c =

@@ -1,5 +1,7 @@
-use Rattle.std.proofs.Common.{length, ap, arith}
+use Rattle.std.proofs.Common.{◌≡◌, ◌+◌, ◌*◌, ◌<◌, ◌≤◌, length, take, sym, ap, arith}
+use Rattle.std.proofs.lemmas.List.{length-take-le}
 use Rattle.plate.specs.Plans.{counted_bytes}
+use Rattle.plate.proofs.Frameds.{joined_length}
 use Rattle.kinds.specs.Listed.{counted_rows}
 use Rattle.plan.specs.Saved.{bytes_at, bytes_past}
 use Rattle.plan.proofs.save.MissCountedTableRows.row_size.Goals as goal
@@ -8,7 +10,8 @@ pub returns-in-Some : goal.returns-in-Some
 returns-in-Some c =
     let row = c.in-Some.ensures.row in
     let is = bytes_at counted_bytes (counted_rows c.args.self.now) c.args.i _ row.here row.stands in
-    rw is (omega (arith, ap length c.row_ranks.ensures))
+    let good = row.keeps in
+    rw is (omega (arith, length-take-le (c.in-Some.row.now.misses + 1) c.in-Some.row.now.ranks (omega arith)))
 
 pub returns-in-None : goal.returns-in-None
 returns-in-None c =
