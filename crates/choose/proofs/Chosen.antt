@@ -1,7 +1,6 @@
 -- The search for the foremost finds it, place by place.
 use Rattle.std.proofs.Common.{◌≡◌, ℕ, zero, suc, ◌+◌, ◌<◌, ◌≤◌, Bool, true, false, cond, ◌⊎◌, List, length, get_or, is_some, IfSome, Some, None, Option, sym, refl, ap, ◌∙◌, inl, inr, add-one, arith, MatchOption}
 use Rattle.std.specs.Option.{option_map}
-use Rattle.std.specs.Cmp.{IsStrictWeakOrder}
 use Rattle.std.proofs.lemmas.Bool.{both_ways}
 use Rattle.choose.specs.Foremost.{foremost, chosen, key_ahead, goes_ahead, better, IsForemost, IsLowest, Orders}
 

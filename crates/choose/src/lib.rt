@@ -1,4 +1,6 @@
 // Choosing the foremost of a list, once for every kind of key whose order is total.
+#![tactic(auto)]
+
 ghost use Rattle.std.specs.Prelude.{◌≡◌, Bool, true, false, length, is_some, None, slice_index_or};
 ghost use Rattle.choose.specs.Foremost.{foremost, goes_ahead, better, IsForemost};
 

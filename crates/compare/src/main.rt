@@ -1,4 +1,6 @@
 // Compares the plate read back from a box with the order: prints the rows of each, and whether they are the same.
+#![tactic(auto)]
+
 use anyhow::anyhow;
 use denial::Denial;
 use kinds::{FrameRow, FrameTable, MissCountedRow, MissCountedTable};

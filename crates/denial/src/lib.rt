@@ -1,4 +1,6 @@
 // Why a call is refused: the rule that was broken, and two details. A denial is handed up unchanged.
+#![tactic(auto)]
+
 ghost use Rattle.std.specs.Prelude.{◌≡◌, ◌≤◌, Some};
 ghost use Rattle.denial.specs.Numbers.{number_of, layer_of, denied, Alone, report};
 

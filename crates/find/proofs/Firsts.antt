@@ -1,8 +1,8 @@
 -- A search answers what it says, and nothing else would be right.
-use Rattle.std.proofs.Common.{◌≡◌, ℕ, zero, suc, ◌+◌, ◌<◌, ◌≤◌, Bool, true, false, cond, ◌⊎◌, Some, None, Option, sym, refl, ap, ◌∙◌, inl, inr, add-one, arith}
+use Rattle.std.proofs.Common.{◌≡◌, ℕ, zero, suc, ◌<◌, Bool, true, false, cond, ◌⊎◌, Some, None, Option, sym, refl, ap, ◌∙◌, inl, inr, arith}
 use Rattle.std.specs.Option.{option_or, option_map}
 use Rattle.std.proofs.lemmas.Bool.{cases_order, both_ways}
-use Rattle.find.specs.First.{first, first_pair, Searched, NoPair, SearchedPair}
+use Rattle.find.specs.First.{first, first_pair, Searched, SearchedPair}
 
 last_or_below : (j n : ℕ) → j < suc n → (j ≡ n) ⊎ (j < n)
 last_or_below j n h = grind arith

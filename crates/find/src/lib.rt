@@ -1,4 +1,6 @@
 // Finding the first index that passes a test, once for every test: each search in the other crates is this one.
+#![tactic(auto)]
+
 ghost use Rattle.std.specs.Prelude.{◌≡◌, ℕ, ◌<◌, Bool, IfSome};
 ghost use Rattle.find.specs.First.{first, Searched};
 

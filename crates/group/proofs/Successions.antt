@@ -1,7 +1,6 @@
 -- Sums along successions of outcomes, for any task.
-use Rattle.std.proofs.Common.{◌≡◌, ℕ, zero, suc, ◌+◌, ◌-◌, ◌*◌, ◌/◌, ◌%◌, ◌<◌, ◌≤◌, min, List, [], ◌∷◌, length, take, drop, sym, refl, ap, ◌∙◌, mod-lt, mul-le-mul_left, div-add-mod', mul-add, arith, length-drop, length-take}
+use Rattle.std.proofs.Common.{◌≡◌, ℕ, zero, suc, ◌+◌, ◌*◌, ◌/◌, ◌%◌, ◌<◌, ◌≤◌, List, [], ◌∷◌, length, take, drop, sym, mod-lt, div-add-mod', mul-add, arith, length-drop, length-take}
 use Rattle.group.specs.declared.meaning.Outcome.{Outcome}
-use Rattle.group.specs.declared.meaning.Outcome.TheVariants.{Finish, Miss}
 use Rattle.group.specs.Task.{Task, Position, after, along}
 
 -- the moves lead from positions to positions

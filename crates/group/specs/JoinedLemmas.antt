@@ -1,10 +1,10 @@
 -- Two lists as one, ended at n.
-use Rattle.std.specs.Prelude.{◌≡◌, ℕ, ◌+◌, ◌-◌, ◌<◌, ◌≤◌, min, ◌⊎◌, List, [], ◌∷◌, ◌++◌, length, take, slice_index_or, slice_set, refl}
-use Rattle.std.proofs.Common.{sym, ap, subst, ◌∙◌, inl, inr, arith, length-take, length-append}
+use Rattle.std.specs.Prelude.{◌≡◌, ℕ, ◌+◌, ◌-◌, ◌<◌, ◌≤◌, min, List, ◌++◌, length, take, slice_index_or, slice_set, refl}
+use Rattle.std.proofs.Common.{sym, ap, ◌∙◌, inl, inr, arith, length-take, length-append}
 use Rattle.std.proofs.lemmas.List.{get_or-take, get_or_past, set_past, get_or_append_left, get_or-append_right, set-append_left, set-append_right}
 use Rattle.std.proofs.lemmas.Bool.{cases_lt, lt-ltb, le-ltb}
 use Rattle.group.specs.declared.meaning.Outcome.{Outcome}
-use Rattle.group.specs.Task.{Task, Position, Lawful, at, no_task, after, settled, place}
+use Rattle.group.specs.Task.{Task, at, no_task, after, settled, place}
 use Rattle.group.specs.declared.part.Part.TheVariants.{First, Second, Absent}
 use Rattle.group.specs.Joined.{part_of, Stands}
 use Rattle.group.specs.Lists.{take-set}

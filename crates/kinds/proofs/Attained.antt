@@ -1,14 +1,13 @@
 -- Some succession asks for all of the demand.
-use Rattle.std.proofs.Common.{◌≡◌, ℕ, zero, suc, ◌+◌, ◌-◌, ◌*◌, ◌/◌, ◌%◌, ◌<◌, ◌≤◌, min, max, Bool, true, false, cond, ltb, ◌⊎◌, List, length, get_or, replicate, sym, refl, ap, ◌∙◌, inl, inr, mul-le-mul_left, arith}
+use Rattle.std.proofs.Common.{◌≡◌, ℕ, zero, suc, ◌+◌, ◌-◌, ◌*◌, ◌/◌, ◌%◌, ◌<◌, ◌≤◌, min, Bool, true, false, cond, ltb, ◌⊎◌, length, get_or, replicate, sym, refl, ap, ◌∙◌, inl, inr, mul-le-mul_left, arith}
 use lib.ListN.{length-replicate}
 use Rattle.std.proofs.lemmas.Bool.{cases_lt}
-use Rattle.group.specs.declared.meaning.Outcome.{Outcome}
 use Rattle.group.specs.declared.meaning.Outcome.TheVariants.{Finish, Miss}
 use Rattle.group.specs.Task.{Task, Position, Lawful, Attained, along, above}
 use Rattle.group.proofs.Successions.{along_le, along_scaled}
 use Rattle.plate.specs.Rows.{Counted, Framed}
 use Rattle.plate.specs.Plans.{SoundCounted, SoundFramed}
-use Rattle.kinds.specs.Cycle.{successive, next_class, largest}
+use Rattle.kinds.specs.Cycle.{successive, next_class}
 use Rattle.kinds.specs.Demands.{Asked}
 use Rattle.kinds.specs.MissCounted.{counted_task, most, count_above}
 use Rattle.kinds.specs.Frames.{framed_task, frame_above}

@@ -1,5 +1,5 @@
 -- Which tasks are miss-counted by their classes and moves.
-use Rattle.std.proofs.Common.{◌≡◌, ℕ, zero, suc, ◌+◌, ◌-◌, ◌<◌, ◌≤◌, Bool, true, false, ltb, leb, length, get_or, refl, ap, ◌∙◌, not-suc-le-zero, arith}
+use Rattle.std.proofs.Common.{◌≡◌, ℕ, zero, suc, ◌+◌, ◌-◌, ◌<◌, ◌≤◌, true, false, ltb, leb, length, refl, ap, ◌∙◌, not-suc-le-zero, arith}
 use Rattle.std.proofs.lemmas.List.{length-map}
 use Rattle.group.specs.Task.{Class, terms_of}
 use Rattle.plate.specs.Faults.{frame_at}
@@ -8,8 +8,8 @@ use Rattle.plate.specs.Plans.{SoundCounted, SoundFramed}
 use Rattle.kinds.specs.Cycle.{next_class}
 use Rattle.kinds.specs.MissCounted.{counted_task, IsMissCounted}
 use Rattle.kinds.specs.Frames.{framed_task, frame_terms}
-use Rattle.kinds.specs.CycleLemmas.{within_low, within_high, next_up, next_round}
-use Rattle.kinds.specs.Ranks.{classes_length, class_terms, one_class}
+use Rattle.kinds.specs.CycleLemmas.{within_low, next_up, next_round}
+use Rattle.kinds.specs.Ranks.{classes_length, class_terms}
 use Rattle.kinds.specs.CountedLaws as missed
 use Rattle.kinds.specs.FramedLaws as frames
 

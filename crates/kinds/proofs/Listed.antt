@@ -1,5 +1,5 @@
 -- The rows that the two tables hold keep the rules of their kind, as a plate has them.
-use Rattle.std.proofs.Common.{◌≡◌, ℕ, ◌<◌, ◌≤◌, length, arith}
+use Rattle.std.proofs.Common.{ℕ, ◌<◌, ◌≤◌, length, arith}
 use Rattle.std.specs.List.{AllByRecursion as All}
 use Rattle.group.specs.Task.{at}
 use Rattle.plate.specs.Plans.{SoundCounted, SoundFramed}

@@ -1,6 +1,6 @@
 -- A miss-counted task keeps the laws of a task.
-use Rattle.std.specs.Prelude.{◌≡◌, ℕ, zero, suc, ◌+◌, ◌-◌, ◌*◌, ◌<◌, ◌≤◌, min, max, Bool, true, cond, List, length, nat_lt, slice_index, slice_index_or}
-use Rattle.std.proofs.Common.{sym, ap, ◌∙◌, mul-le-mul_left, mul-le-mul, mul_comm, not-suc-le-zero, arith}
+use Rattle.std.specs.Prelude.{◌≡◌, ℕ, zero, suc, ◌+◌, ◌-◌, ◌*◌, ◌<◌, ◌≤◌, min, max, cond, List, length, nat_lt, slice_index, slice_index_or}
+use Rattle.std.proofs.Common.{ap, mul-le-mul_left, mul-le-mul, mul_comm, not-suc-le-zero, arith}
 use Rattle.std.proofs.ByRecursion.{All-get_or}
 use Rattle.group.specs.declared.meaning.Outcome.{Outcome}
 use Rattle.group.specs.declared.meaning.Outcome.TheVariants.{Finish, Miss}
@@ -9,7 +9,6 @@ use Rattle.group.specs.Task.{Task, Position, Class, Lawful, along, above, terms_
 use Rattle.group.proofs.Successions.{Moves, along_le, along_scaled, rounds}
 use Rattle.plate.specs.Rows.{Counted}
 use Rattle.plate.specs.Plans.{SoundCounted, Within}
-use Rattle.kinds.specs.Cycle.{next_class}
 use Rattle.kinds.specs.MissCounted.{counted_task, most, count_above}
 use Rattle.kinds.specs.CycleLemmas.{within_low, within_high, is_within, next_within}
 use Rattle.kinds.specs.Cover.{top, climb, window}

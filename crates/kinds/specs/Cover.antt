@@ -1,5 +1,5 @@
 -- How often a succession of jobs of a miss-counted task can be in the top classes.
-use Rattle.std.specs.Prelude.{◌≡◌, ℕ, suc, ◌+◌, ◌-◌, ◌<◌, ◌≤◌, min, max, Bool, true, false, cond, List, [], ◌∷◌, length, nat_lt, refl}
+use Rattle.std.specs.Prelude.{◌≡◌, ℕ, suc, ◌+◌, ◌-◌, ◌≤◌, min, max, Bool, true, false, cond, List, [], ◌∷◌, length, nat_lt, refl}
 use Rattle.std.proofs.Common.{arith}
 use Rattle.group.specs.declared.meaning.Outcome.{Outcome}
 use Rattle.group.specs.declared.meaning.Outcome.TheVariants.{Finish, Miss}

@@ -1,6 +1,6 @@
 -- Sums over successive classes of a cycle: a whole turn is the same from every class, so only the remainder depends on the start.
-use Rattle.std.specs.Prelude.{◌≡◌, ℕ, zero, suc, ◌+◌, ◌-◌, ◌*◌, ◌/◌, ◌%◌, ◌<◌, ◌≤◌, min, max, true, cond, ltb, leb, ◌⊎◌, refl}
-use Rattle.std.proofs.Common.{sym, ap, ◌∙◌, inl, inr, div-add-mod', mod-lt, arith}
+use Rattle.std.specs.Prelude.{◌≡◌, ℕ, zero, suc, ◌+◌, ◌-◌, ◌*◌, ◌/◌, ◌%◌, ◌<◌, ◌≤◌, max, true, ◌⊎◌}
+use Rattle.std.proofs.Common.{sym, ap, ◌∙◌, inl, inr, div-add-mod', arith}
 use Rattle.kinds.specs.Cycle.{within, next_class, successive, largest}
 
 pub within_low : (k x : ℕ) → within k x ≡ true → 1 ≤ x

@@ -1,6 +1,6 @@
 -- A task of frames keeps the laws of a task.
 use Rattle.std.specs.Prelude.{◌≡◌, ℕ, zero, suc, ◌*◌, ◌<◌, ◌≤◌, min, cond, List, [], ◌∷◌, length, nat_lt, refl}
-use Rattle.std.proofs.Common.{ap, ◌∙◌, not-suc-le-zero, arith}
+use Rattle.std.proofs.Common.{ap, not-suc-le-zero, arith}
 use Rattle.std.proofs.ByRecursion.{All-get_or}
 use Rattle.std.proofs.lemmas.List.{get_or-map, length-map}
 use Rattle.group.specs.declared.meaning.Outcome.{Outcome}

@@ -1,6 +1,6 @@
 -- The most of N jobs in a row that are in the top n of k classes: how it grows.
-use Rattle.std.specs.Prelude.{◌≡◌, ℕ, zero, suc, ◌+◌, ◌-◌, ◌*◌, ◌/◌, ◌%◌, ◌<◌, ◌≤◌, min, max, ◌⊎◌, refl}
-use Rattle.std.proofs.Common.{sym, ap, ◌∙◌, inl, inr, mod-lt, div-add-mod', mul-le-mul_left, mul-le-mul_right, mul_comm, arith}
+use Rattle.std.specs.Prelude.{◌≡◌, ℕ, ◌+◌, ◌*◌, ◌/◌, ◌%◌, ◌<◌, ◌≤◌, min, ◌⊎◌}
+use Rattle.std.proofs.Common.{ap, inl, inr, mod-lt, div-add-mod', mul-le-mul_left, mul-le-mul_right, arith}
 use Rattle.kinds.specs.MissCounted.{most}
 
 order : (a b : ℕ) → (a < b) ⊎ ((a ≡ b) ⊎ (b < a))

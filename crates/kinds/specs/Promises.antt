@@ -1,5 +1,5 @@
 -- What is shown of the two kinds, beyond the laws of a group. Assumes nothing.
-use Rattle.std.specs.Prelude.{◌≡◌, ℕ, ◌<◌, ◌≤◌, List, [], ◌∷◌, map, length}
+use Rattle.std.specs.Prelude.{◌≡◌, ℕ, ◌<◌, ◌≤◌, length}
 use Rattle.std.specs.List.{AllByRecursion as All}
 use Rattle.group.specs.Task.{Attained, at}
 use Rattle.plate.specs.Rows.{Counted, Framed}

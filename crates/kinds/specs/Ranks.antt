@@ -1,9 +1,9 @@
 -- The ranks of a miss-counted task: those above p are the last ones.
-use Rattle.std.specs.Prelude.{◌≡◌, ℕ, zero, suc, ◌+◌, ◌-◌, ◌*◌, ◌<◌, ◌≤◌, Bool, true, false, cond, List, [], ◌∷◌, length, get_or, nat_lt, slice_index, slice_index_or, refl}
-use Rattle.std.proofs.Common.{sym, ap, ◌∙◌, not-suc-le-zero, arith}
+use Rattle.std.specs.Prelude.{◌≡◌, ℕ, zero, suc, ◌+◌, ◌<◌, ◌≤◌, Bool, true, cond, List, [], ◌∷◌, length, get_or, nat_lt, slice_index, slice_index_or, refl}
+use Rattle.std.proofs.Common.{ap, ◌∙◌, not-suc-le-zero, arith}
 use Rattle.group.specs.declared.meaning.Terms.{Terms}
 use Rattle.group.specs.Task.{no_terms}
-use Rattle.kinds.specs.MissCounted.{count_above, classes_of, follows}
+use Rattle.kinds.specs.MissCounted.{count_above, classes_of}
 
 pub count-le : (p : ℕ) (rs : List ℕ) → count_above p rs ≤ length rs
 count-le p [] = omega arith

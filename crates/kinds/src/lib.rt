@@ -1,4 +1,6 @@
 // The two kinds of task, each in a table of at most 16 rows that never holds a row which breaks the rules of its kind.
+#![tactic(auto)]
+
 mod counted_row;
 mod counted_table;
 mod exact;

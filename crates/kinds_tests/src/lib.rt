@@ -1,4 +1,5 @@
 // Examples of the two kinds and their join.
+#![tactic(auto)]
 
 #[cfg(test)]
 mod tests {

@@ -1,9 +1,9 @@
 -- Rows taken in one by one.
-use Rattle.std.proofs.Common.{◌≡◌, ℕ, suc, ◌+◌, ◌<◌, ◌≤◌, List, [], ◌∷◌, ◌++◌, length, Ok, Err, Result, sym, refl, ap, ◌∙◌, subst, arith}
+use Rattle.std.proofs.Common.{◌≡◌, ℕ, ◌+◌, ◌<◌, List, length, Ok, Err, Result, sym, refl, ap, ◌∙◌, arith}
 use Rattle.std.proofs.lemmas.List.{length_push}
 use Rattle.denial.specs.declared.Denial.{Denial}
 use Rattle.plate.specs.Rows.{Counted, Framed, frames_of}
-use Rattle.plate.specs.Plans.{Plan, with_counted, with_framed}
+use Rattle.plate.specs.Plans.{Plan}
 use Rattle.plate.specs.Reading.{Handed, State, rest_of}
 use Rattle.plate.specs.Reading.Handed.{counted, framed}
 use Rattle.plate.proofs.Rests.{Took}

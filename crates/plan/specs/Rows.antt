@@ -1,5 +1,5 @@
 -- Rows that were read, and the rows to come. Assumes nothing.
-use Rattle.std.specs.Prelude.{ℕ, List, [], ◌∷◌, ◌++◌, map, Ok, Err, Result}
+use Rattle.std.specs.Prelude.{ℕ, List, ◌++◌, map, Ok, Err, Result}
 use Rattle.denial.specs.declared.Denial.{Denial}
 use Rattle.plate.specs.Rows.{Counted, Framed}
 use Rattle.plate.specs.Plans.{Plan}

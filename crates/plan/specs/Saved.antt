@@ -1,6 +1,6 @@
 -- Rows of the tables, by their bytes, and their writing.
-use Rattle.std.specs.Prelude.{◌≡◌, ℕ, zero, suc, ◌+◌, ◌*◌, ◌<◌, ◌≤◌, false, ltb, List, [], ◌∷◌, ◌++◌, map, length, None, Ok, Err, Result, ◌==◌, nat_lt, slice_index_or, refl}
-use Rattle.std.proofs.Common.{append_assoc, sym, ap, subst, ◌∙◌, arith}
+use Rattle.std.specs.Prelude.{◌≡◌, ℕ, zero, suc, ◌+◌, ◌*◌, ◌<◌, ◌≤◌, false, ltb, List, [], ◌∷◌, ◌++◌, map, length, None, Ok, Result, ◌==◌, nat_lt, slice_index_or, refl}
+use Rattle.std.proofs.Common.{append_assoc, ap, ◌∙◌, arith}
 use Rattle.std.specs.Option.{option_or}
 use Rattle.std.specs.List.{flat_map, AllByRecursion as All}
 use Rattle.std.proofs.lemmas.List.{get_or-map, get_or_past, length-append, length-map}

@@ -1,4 +1,5 @@
 // Examples of loading, saving and joining plans.
+#![tactic(auto)]
 
 #[cfg(test)]
 mod tests {

@@ -1,14 +1,13 @@
 -- Miss-counted rows: what is read is written, and what is written is read.
-use Rattle.std.proofs.Common.{◌≡◌, ℕ, zero, suc, ◌+◌, ◌-◌, ◌*◌, ◌/◌, ◌%◌, ◌<◌, ◌≤◌, true, false, ◌||◌, eqb, ltb, List, [], ◌∷◌, ◌++◌, length, get_or, take, drop, Some, None, sym, refl, ap, ◌∙◌, arith}
-use Rattle.std.specs.List.{AllByRecursion as All}
-use Rattle.std.proofs.lemmas.List.{drop_more, drop-drop, get_or-drop, get_or-take, length-take, length-take-le, length-drop, length-append, take-append-drop, take_at, drop_at}
+use Rattle.std.proofs.Common.{◌≡◌, ℕ, zero, suc, ◌+◌, ◌-◌, ◌*◌, ◌/◌, ◌%◌, ◌<◌, ◌≤◌, false, ltb, List, ◌∷◌, ◌++◌, length, get_or, take, drop, None, sym, refl, ap, ◌∙◌, arith}
+use Rattle.std.proofs.lemmas.List.{drop_more, drop-drop, get_or-drop, length-take-le, length-drop, length-append, take-append-drop, take_at}
 use Rattle.std.proofs.ByRecursion.{All-from_get_or, All-get_or}
-use Rattle.std.proofs.lemmas.Bool.{or_parts, or_from, ltb-false, eqb-false, le-ltb, ne_eqb}
+use Rattle.std.proofs.lemmas.Bool.{or_parts, or_from, ltb-false, le-ltb}
 use Rattle.plate.specs.Bits.{field}
 use Rattle.plate.specs.Faults.{spare_fault, no_rank, bad_rank, counted_fault}
 use Rattle.plate.specs.Rows.{Counted, short_fault, ranks_count, rank_bytes, counted_at, counted_denial}
 use Rattle.plate.specs.Plans.{Within, Bytes, SoundCounted, counted_bytes}
-use Rattle.plate.proofs.Fields.{field_within, field_high, field_middle, field_low}
+use Rattle.plate.proofs.Fields.{field_within, field_high, field_middle}
 use Rattle.plate.proofs.Halves.{high_half, low_half, by_sixteen, by_byte}
 use Rattle.plate.proofs.Nones.{ranged, in_range, or-none, when_none, mapped_none, first_all, all_first}
 

@@ -1,5 +1,5 @@
 -- Laws of bit fields.
-use Rattle.std.proofs.Common.{◌≡◌, ℕ, zero, suc, ◌+◌, ◌-◌, ◌*◌, ◌/◌, ◌%◌, ◌^◌, ◌<◌, ◌≤◌, List, get_or, drop, sym, refl, ap, ◌∙◌, add-zero, add_assoc, add-suc, mul_assoc, pow-suc, add-one, arith, pow_pos, pow_mono}
+use Rattle.std.proofs.Common.{◌≡◌, ℕ, zero, suc, ◌+◌, ◌-◌, ◌*◌, ◌/◌, ◌%◌, ◌^◌, ◌<◌, ◌≤◌, List, get_or, drop, sym, refl, ap, ◌∙◌, add-zero, add_assoc, add-suc, mul_assoc, pow-suc, add-one, arith, pow_mono}
 use Rattle.std.proofs.lemmas.List.{get_or-drop}
 use Rattle.std.proofs.lemmas.Nat.{mod_below, mod-pow-add, shr-shr}
 use Rattle.plate.specs.Bits.{bit, field}

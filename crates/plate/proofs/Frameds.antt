@@ -1,9 +1,9 @@
 -- Frame rows: what is read is written, and what is written is read.
-use Rattle.std.proofs.Common.{◌≡◌, ℕ, zero, suc, ◌+◌, ◌-◌, ◌*◌, ◌/◌, ◌%◌, ◌<◌, ◌≤◌, Bool, true, false, eqb, ltb, List, [], ◌∷◌, ◌++◌, length, get_or, take, drop, Some, None, sym, refl, ap, ◌∙◌, inl, inr, arith}
+use Rattle.std.proofs.Common.{◌≡◌, ℕ, zero, suc, ◌+◌, ◌-◌, ◌*◌, ◌/◌, ◌%◌, ◌<◌, ◌≤◌, Bool, false, ltb, List, [], ◌∷◌, ◌++◌, length, get_or, take, drop, None, sym, refl, ap, ◌∙◌, inl, inr, arith}
 use Rattle.std.specs.List.{flat_map, AllByRecursion as All}
 use Rattle.std.proofs.lemmas.List.{drop_more, drop-drop, get_or-drop, get_or-take, length-take, length-take-le, length-drop, length-append, take-append-drop, take_at, get_or_past}
 use Rattle.std.proofs.ByRecursion.{All-from_get_or, All-get_or, All-weaker}
-use Rattle.std.proofs.lemmas.Bool.{cases_lt, ltb-false, eqb-false, le-ltb, ne_eqb}
+use Rattle.std.proofs.lemmas.Bool.{cases_lt, ltb-false, le-ltb}
 use Rattle.std.specs.Option.{option_map}
 use Rattle.denial.specs.declared.Rule.TheVariants.{Spare}
 use Rattle.denial.specs.declared.Denial.{Denial}
@@ -11,10 +11,10 @@ use Rattle.denial.specs.Numbers.{denied}
 use Rattle.plate.specs.declared.frame.Frame.{Frame}
 use Rattle.plate.specs.Bits.{field}
 use Rattle.plate.specs.Faults.{spare_fault, frame_at, bad_budget, no_rank, framed_fault}
-use Rattle.plate.specs.Rows.{Framed, short_fault, spare_frame, frame_of, frames_of, frames_count, frame_bytes, framed_at, framed_denial}
+use Rattle.plate.specs.Rows.{Framed, short_fault, spare_frame, frames_of, frames_count, frame_bytes, framed_at, framed_denial}
 use Rattle.plate.specs.Plans.{Within, Bytes, SoundFramed, bytes_of_frame, framed_bytes}
-use Rattle.plate.proofs.Fields.{field_within, field_high, field_byte, field_drop, field_low}
-use Rattle.plate.proofs.Frames.{frames_length, frames_at}
+use Rattle.plate.proofs.Fields.{field_within, field_high, field_byte, field_drop}
+use Rattle.plate.proofs.Frames.{frames_length}
 use Rattle.plate.proofs.Halves.{high_half, low_half, by_sixteen, by_nibble, four_three}
 use Rattle.plate.proofs.Nones.{or-none, when_none, mapped_none, first_all, all_first, ranged, in_range}
 

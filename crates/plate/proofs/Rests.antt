@@ -1,5 +1,5 @@
 -- What is left of a plate, from a state of its reader on.
-use Rattle.std.proofs.Common.{◌≡◌, ℕ, zero, suc, ◌+◌, ◌-◌, ◌<◌, ◌≤◌, true, ltb, List, [], Some, None, Ok, Err, Option, Result, sym, refl, ap, ◌∙◌, subst, arith}
+use Rattle.std.proofs.Common.{◌≡◌, ℕ, zero, suc, ◌+◌, ◌-◌, ◌<◌, true, ltb, List, [], Some, None, Ok, Err, Option, Result, sym, refl, ap, ◌∙◌, subst, arith}
 use Rattle.std.proofs.lemmas.Bool.{lt-ltb, ne_eqb}
 use Rattle.denial.specs.declared.Denial.{Denial}
 use Rattle.plate.specs.Rows.{Counted, Framed, frames_of, counted_denial, counted_bits, framed_denial, framed_bits}
@@ -7,7 +7,7 @@ use Rattle.denial.specs.Checks.{unless}
 use Rattle.plate.specs.Plans.{Plan, with_counted, with_framed, framed_from, counted_from}
 use Rattle.plate.specs.Reading.Handed.{counted, framed}
 use Rattle.plate.specs.Reading.{State, Handed, counted_here, framed_here, row_denial, next_row, after_row, next_denial, opened, fault_of, rest_of}
-use Rattle.plate.proofs.Steps.{unless_ok, unless_err, after_place}
+use Rattle.plate.proofs.Steps.{unless_ok, unless_err}
 
 fault_counted : (c : Counted) (r : Result Plan Denial) → fault_of (with_counted c r) ≡ fault_of r
 fault_counted c (Ok plan) = refl

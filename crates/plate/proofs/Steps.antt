@@ -1,8 +1,7 @@
 -- One step of a reader, past the header.
-use Rattle.std.proofs.Common.{◌≡◌, ℕ, ◌+◌, ◌-◌, ◌*◌, ◌%◌, ◌<◌, ◌≤◌, true, false, cond, ltb, List, Some, None, Ok, Err, Option, Result, sym, refl, ap, ◌∙◌, subst, inl, inr, arith}
+use Rattle.std.proofs.Common.{◌≡◌, ℕ, ◌+◌, ◌-◌, ◌<◌, ◌≤◌, cond, ltb, List, Some, None, Ok, Err, Option, Result, sym, refl, subst, inl, inr, arith}
 use Rattle.std.proofs.lemmas.Bool.{lt-ltb, le-ltb, cond_both, cases_lt}
 use Rattle.denial.specs.declared.Denial.{Denial}
-use Rattle.plate.specs.Bits.{field}
 use Rattle.plate.specs.Rows.{counted_bits, counted_denial, framed_bits, framed_denial}
 use Rattle.denial.specs.Checks.{unless}
 use Rattle.plate.specs.Plans.{extra_fault}

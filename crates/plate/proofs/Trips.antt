@@ -1,13 +1,13 @@
 -- Whole plates: what is read is written, and what is written is read.
-use Rattle.std.proofs.Common.{◌≡◌, ℕ, zero, suc, ◌+◌, ◌-◌, ◌*◌, ◌/◌, ◌%◌, ◌<◌, ◌≤◌, true, false, not, ◌&&◌, eqb, ltb, List, [], ◌∷◌, ◌++◌, length, get_or, take, drop, Some, None, Ok, Err, Option, Result, sym, refl, ap, ◌∙◌, subst, inl, inr, append_assoc, arith}
+use Rattle.std.proofs.Common.{◌≡◌, ℕ, zero, suc, ◌+◌, ◌*◌, ◌/◌, ◌%◌, ◌≤◌, false, not, ◌&&◌, eqb, ltb, List, [], ◌∷◌, ◌++◌, length, get_or, drop, Some, None, Ok, Err, Option, Result, sym, refl, ap, ◌∙◌, inl, inr, append_assoc, arith}
 use Rattle.std.specs.List.{flat_map, AllByRecursion as All}
 use Rattle.std.proofs.lemmas.List.{drop-drop, drop_all, drop_at, length-append, length-drop}
 use Rattle.std.proofs.lemmas.Bool.{ltb-false, le-ltb, eqb-false, eqb-true, ne_eqb, or_parts, and_left, and_cases, not-false}
 use Rattle.denial.specs.declared.Denial.{Denial}
 use Rattle.plate.specs.Bits.{field}
 use Rattle.plate.specs.Rows.{Counted, Framed, counted_at, counted_denial, counted_bits, ranks_count, framed_at, framed_denial, framed_bits, frames_count}
-use Rattle.denial.specs.Checks.{unless, past}
-use Rattle.plate.specs.Plans.{Plan, with_counted, with_framed, extra_fault, framed_from, counted_from, counts_fault, header_denial, header_bytes, decode, Within, Bytes, SoundCounted, SoundFramed, Sound, bytes_of_frame, counted_bytes, framed_bytes, encode, ReadIsWritten, WrittenIsRead, FewBytes}
+use Rattle.denial.specs.Checks.{past}
+use Rattle.plate.specs.Plans.{Plan, with_counted, with_framed, extra_fault, framed_from, counted_from, counts_fault, header_denial, header_bytes, decode, Bytes, SoundCounted, SoundFramed, counted_bytes, framed_bytes, encode, ReadIsWritten, WrittenIsRead, FewBytes}
 use Rattle.std.proofs.lemmas.Nat.{div-mul-add, mod-mul-add}
 use Rattle.plate.proofs.Fields.{header_edition, header_counted, header_framed}
 use Rattle.plate.proofs.Steps.{unless_ok}

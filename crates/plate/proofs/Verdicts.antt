@@ -1,8 +1,8 @@
 -- From what was read of a plate to what it decodes to.
-use Rattle.std.proofs.Common.{◌≡◌, ℕ, ◌<◌, ◌≤◌, List, length, Some, None, Ok, Err, Option, Result, sym, refl, ap, ◌∙◌, subst, arith}
+use Rattle.std.proofs.Common.{◌≡◌, ℕ, ◌<◌, ◌≤◌, List, length, Some, None, Ok, Err, Result, sym, refl, ap, ◌∙◌, subst, arith}
 use Rattle.denial.specs.declared.Denial.{Denial}
 use Rattle.plate.specs.Bits.{field}
-use Rattle.plate.specs.Plans.{Plan, Bytes, Accepted, Refused, header_denial, decode, encode}
+use Rattle.plate.specs.Plans.{Plan, Bytes, Accepted, Refused, header_denial, decode}
 use Rattle.plate.specs.declared.reader.Counts.{Counts}
 use Rattle.denial.specs.Checks.{unless}
 use Rattle.plate.specs.Reading.{State, fault_of, rest_of, first_state, opened, open_denial}

@@ -1,10 +1,9 @@
 -- A row that was put at its place is read there.
-use Rattle.std.proofs.Common.{◌≡◌, ℕ, ◌+◌, ◌*◌, ◌<◌, ◌≤◌, List, [], ◌∷◌, ◌++◌, length, get_or, take, drop, None, sym, refl, ap, ◌∙◌}
+use Rattle.std.proofs.Common.{◌≡◌, ℕ, ◌+◌, ◌≤◌, List, ◌++◌, length, take, drop, None, ap, ◌∙◌}
 use Rattle.std.proofs.lemmas.List.{drop_at, length-take-le}
-use Rattle.plate.specs.declared.frame.Frame.{Frame}
 use Rattle.plate.specs.Faults.{counted_fault, framed_fault}
 use Rattle.plate.specs.Rows.{Counted, Framed}
-use Rattle.plate.specs.Plans.{SoundCounted, SoundFramed, counted_bytes, framed_bytes}
+use Rattle.plate.specs.Plans.{counted_bytes, framed_bytes}
 use Rattle.plate.specs.Writing.{put_at, ReadsCounted, ReadsFramed}
 use Rattle.plate.proofs.Counteds
 use Rattle.plate.proofs.Frameds

@@ -1,5 +1,5 @@
 -- The first fault of a row, by its rules. Assumes nothing.
-use Rattle.std.specs.Prelude.{ℕ, zero, suc, ◌+◌, ◌-◌, ◌*◌, Bool, cond, ◌||◌, List, length, Some, None, Option, ◌==◌, nat_lt, slice_index, slice_index_or}
+use Rattle.std.specs.Prelude.{ℕ, ◌+◌, ◌-◌, ◌*◌, Bool, ◌||◌, List, length, Option, ◌==◌, nat_lt, slice_index, slice_index_or}
 use Rattle.std.specs.Option.{option_or, option_map}
 use Rattle.denial.specs.declared.Denial.{Denial}
 use Rattle.denial.specs.declared.Rule.TheVariants.{Spare, Times, Ranks}

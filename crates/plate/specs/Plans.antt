@@ -1,9 +1,9 @@
 -- A whole plate: the rows that it decodes to, or its first fault; and the bytes that rows encode to. Assumes nothing.
-use Rattle.std.specs.Prelude.{◌≡◌, ℕ, zero, suc, ◌+◌, ◌-◌, ◌*◌, ◌/◌, ◌%◌, ◌<◌, ◌≤◌, Bool, not, ◌&&◌, ◌||◌, List, [], ◌∷◌, ◌++◌, length, Some, None, Ok, Err, Option, Result, ◌==◌, ◌≢◌, nat_lt, slice_index}
+use Rattle.std.specs.Prelude.{◌≡◌, ℕ, zero, suc, ◌+◌, ◌-◌, ◌*◌, ◌/◌, ◌%◌, ◌<◌, ◌≤◌, not, ◌&&◌, ◌||◌, List, [], ◌∷◌, ◌++◌, length, Ok, Err, Option, Result, ◌==◌, ◌≢◌, nat_lt, slice_index}
 use Rattle.std.specs.Option.{option_or}
 use Rattle.std.specs.List.{flat_map, AllByRecursion as All}
 use Rattle.denial.specs.declared.Denial.{Denial}
-use Rattle.denial.specs.declared.Rule.TheVariants.{Edition, RowCounts, Extra, Short}
+use Rattle.denial.specs.declared.Rule.TheVariants.{Edition, RowCounts, Extra}
 use Rattle.denial.specs.Numbers.{denied}
 use Rattle.plate.specs.declared.frame.Frame.{Frame}
 use Rattle.plate.specs.Bits.{field}

@@ -1,4 +1,6 @@
 // The plan plate: its rows are read exactly, or the first rule that it breaks is named.
+#![tactic(auto)]
+
 pub mod accept;
 mod cursor;
 mod faults;

@@ -1,4 +1,5 @@
 // Examples of reading, writing and comparing plates.
+#![tactic(auto)]
 
 #[cfg(test)]
 mod tests {

@@ -1,6 +1,5 @@
-use Rattle.std.proofs.Common.{◌≡◌, length, get_or, Some, None, Option, sym, refl, ap, ◌∙◌, subst, arith}
+use Rattle.std.proofs.Common.{◌≡◌, length, get_or, Some, None, ◌∙◌, arith}
 use Rattle.std.proofs.lemmas.List.{get_or_default}
-use Rattle.choose.specs.Foremost.{foremost, goes_ahead, better, IsForemost}
 use Rattle.choose.proofs.Chosen.{best_none, best_more, best_all}
 use Rattle.choose.proofs.foremost.Goals as goal
 

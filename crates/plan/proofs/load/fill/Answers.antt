@@ -1,6 +1,5 @@
-use Rattle.std.proofs.Common.{◌≡◌, sym, ap, ◌∙◌, arith}
+use Rattle.std.proofs.Common.{sym, ap, ◌∙◌, arith}
 use Rattle.std.proofs.lemmas.Result.{err_from_is_err_and}
-use Rattle.plate.specs.Reading.{handed}
 use Rattle.plate.specs.Readers.{state, plate_of}
 use Rattle.plate.proofs.Rests.{reads_row, reads_err, reads_end}
 use Rattle.kinds.specs.Listed.{counted_rows, framed_rows}

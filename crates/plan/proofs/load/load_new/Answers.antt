@@ -1,7 +1,6 @@
-use Rattle.std.proofs.Common.{◌≡◌, Some, sym, ap, ◌∙◌}
+use Rattle.std.proofs.Common.{sym, ap, ◌∙◌}
 use Rattle.std.proofs.lemmas.Result.{err_from_is_err_and}
-use Rattle.plate.specs.Reading.{fault_of, rest_of}
-use Rattle.plate.specs.Readers.{state, plate_of}
+use Rattle.plate.specs.Reading.{fault_of}
 use Rattle.plate.proofs.Trips.{read_is_written}
 use Rattle.plate.proofs.Verdicts.{header_refused, rows_refused, decode_rows, opened_ok, opened_err, opened_rest}
 use Rattle.plan.proofs.Afters.{after_none_read}

@@ -1,4 +1,4 @@
-use Rattle.std.proofs.Common.{◌≡◌, ap}
+use Rattle.std.proofs.Common.{ap}
 use Rattle.plate.specs.Reading.{handed}
 use Rattle.plan.proofs.Takes.{counted_taken, framed_taken, as_counted, as_framed}
 use Rattle.plan.proofs.load.take_row.Goals as goal

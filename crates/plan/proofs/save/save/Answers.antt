@@ -1,4 +1,4 @@
-use Rattle.std.proofs.Common.{◌≡◌, ◌+◌, ◌≤◌, length, Ok, sym, refl, ap, ◌∙◌, arith, rules}
+use Rattle.std.proofs.Common.{length, Ok, sym, refl, ap, ◌∙◌, arith}
 use Rattle.plate.specs.Plans.{Plan, Sound, encode, unless}
 use Rattle.plate.proofs.Trips.{written_is_read}
 use Rattle.kinds.specs.Listed.{counted_rows, framed_rows}

@@ -1,4 +1,4 @@
-use Rattle.std.proofs.Common.{◌≡◌, [], length, ap, ◌∙◌, arith}
+use Rattle.std.proofs.Common.{length, ap, ◌∙◌, arith}
 use Rattle.plan.specs.Concats.{concat_length, concat_all}
 use Rattle.plan.proofs.save.size_of.Goals as goal
 

@@ -1,6 +1,6 @@
-use Rattle.std.proofs.Common.{◌≡◌, ◌+◌, ◌≤◌, [], length, get_or, sym, ap, ◌∙◌, arith}
+use Rattle.std.proofs.Common.{◌+◌, length, sym, ap, ◌∙◌, arith}
 use Rattle.plate.specs.Writing.{put_at}
-use Rattle.plate.proofs.Puts.{put_none, put_length}
+use Rattle.plate.proofs.Puts.{put_none}
 use Rattle.plan.specs.Concats.{concat_length, concat_front, concat_all, put_more}
 use Rattle.plan.proofs.save.write_all.Goals as goal
 

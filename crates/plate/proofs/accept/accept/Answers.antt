@@ -1,7 +1,6 @@
 use Rattle.std.proofs.Common.{ap, ◌∙◌}
 use Rattle.std.proofs.lemmas.Result.{err_from_is_err_and}
 use Rattle.plate.specs.Reading.{fault_of}
-use Rattle.plate.specs.Readers.{state, plate_of}
 use Rattle.plate.proofs.Trips.{written_is_read}
 use Rattle.plate.proofs.Verdicts.{header_refused, rows_refused, rows_accepted, opened_ok, opened_err, opened_rest}
 use Rattle.plate.proofs.accept.accept.Goals as goal

@@ -1,7 +1,6 @@
-use Rattle.std.proofs.Common.{◌≡◌, sym, ap, ◌∙◌, rules}
-use Rattle.std.specs.Option.{option_map}
+use Rattle.std.proofs.Common.{sym, ap, ◌∙◌}
 use Rattle.std.proofs.lemmas.Result.{err_from_is_err_and}
-use Rattle.plate.specs.Reading.{handed, fault_of, rest_of}
+use Rattle.plate.specs.Reading.{fault_of}
 use Rattle.plate.specs.Readers.{state, plate_of}
 use Rattle.plate.proofs.Rests.{reads_err, reads_end, reads_more}
 use Rattle.plate.proofs.accept.read_on.Goals as goal

@@ -1,4 +1,4 @@
-use Rattle.std.proofs.Common.{◌≡◌, ◌/◌, length, take, sym, ap, ◌∙◌, arith}
+use Rattle.std.proofs.Common.{◌/◌, length, take, sym, ap, ◌∙◌, arith}
 use native.Mathlib.Nat.{sub-zero}
 use Rattle.plate.specs.Rows.{frames_of}
 use Rattle.plate.proofs.Frames.{frames_length, padded_few}

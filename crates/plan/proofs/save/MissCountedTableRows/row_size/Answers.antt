@@ -1,7 +1,6 @@
-use Rattle.std.proofs.Common.{◌≡◌, ◌+◌, ◌*◌, ◌<◌, ◌≤◌, length, take, sym, ap, arith}
+use Rattle.std.proofs.Common.{◌+◌, arith}
 use Rattle.std.proofs.lemmas.List.{length-take-le}
 use Rattle.plate.specs.Plans.{counted_bytes}
-use Rattle.plate.proofs.Frameds.{joined_length}
 use Rattle.kinds.specs.Listed.{counted_rows}
 use Rattle.plan.specs.Saved.{bytes_at, bytes_past}
 use Rattle.plan.proofs.save.MissCountedTableRows.row_size.Goals as goal
