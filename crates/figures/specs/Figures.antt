@@ -46,6 +46,8 @@ pub record Figures : Type 0 where
       map (λ N. (counted_task four_classes).demand N 5) (1 ∷ (2 ∷ (3 ∷ (4 ∷ (5 ∷ (6 ∷ (7 ∷ []))))))) ≡ 1 ∷ (2 ∷ (2 ∷ (2 ∷ (3 ∷ (4 ∷ (4 ∷ []))))))
   -- the demands of 1 to 5 jobs of the frame task above rank 5
   pub framed_demands : map (λ N. (framed_task three_frames).demand N 5) (1 ∷ (2 ∷ (3 ∷ (4 ∷ (5 ∷ []))))) ≡ 5 ∷ (6 ∷ (7 ∷ (12 ∷ (13 ∷ []))))
+
+pub record StartFigures : Type 0 where
   -- the printed plan: its bounds, and it may be started
   pub printed_bounds : all_bounds printed ≡ None ∷ (Some 2 ∷ (Some 5 ∷ (Some 5 ∷ [])))
   pub printed_verdict : plan_fault printed ≡ None

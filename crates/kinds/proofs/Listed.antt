@@ -1,6 +1,6 @@
 -- The rows that the two tables hold keep the rules of their kind, as a plate has them.
 use Rattle.std.proofs.Common.{ℕ, ◌<◌, ◌≤◌, length, arith}
-use Rattle.std.specs.List.{AllByRecursion as All}
+use Rattle.std.specs.List.{AllByRecursion}
 use Rattle.group.specs.Task.{at}
 use Rattle.plate.specs.Plans.{SoundCounted, SoundFramed}
 use Rattle.kinds.specs.declared.counted_table.MissCountedTable.{MissCountedTable}
@@ -15,7 +15,7 @@ use Rattle.kinds.specs.FramedRows.{framed_kind}
 use Rattle.kinds.proofs.Counting.{counted_counts}
 
 module _ (t : MissCountedTable) where
-  pub counted_sound : All SoundCounted (counted_rows t)
+  pub counted_sound : AllByRecursion SoundCounted (counted_rows t)
   counted_sound = all_told counted_kind (counted_store t) SoundCounted (λ r k. k.sound)
 
   pub counted_few : length (counted_rows t) ≤ 16
@@ -26,7 +26,7 @@ module _ (t : MissCountedTable) where
       each_task counted_kind (counted_store t) IsMissCounted (λ r k. counted_counts (counted_of r) k.sound)
 
 module _ (t : FrameTable) where
-  pub framed_sound : All SoundFramed (framed_rows t)
+  pub framed_sound : AllByRecursion SoundFramed (framed_rows t)
   framed_sound = all_told framed_kind (framed_store t) SoundFramed (λ r k. k.sound)
 
   pub framed_few : length (framed_rows t) ≤ 16

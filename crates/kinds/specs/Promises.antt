@@ -1,6 +1,6 @@
 -- What is shown of the two kinds, beyond the laws of a group. Assumes nothing.
 use Rattle.std.specs.Prelude.{◌≡◌, ℕ, ◌<◌, ◌≤◌, length}
-use Rattle.std.specs.List.{AllByRecursion as All}
+use Rattle.std.specs.List.{AllByRecursion}
 use Rattle.group.specs.Task.{Attained, at}
 use Rattle.plate.specs.Rows.{Counted, Framed}
 use Rattle.plate.specs.Plans.{SoundCounted, SoundFramed}
@@ -29,5 +29,5 @@ OneFrameCounts = (f : Framed) → SoundFramed f → length f.frames ≡ 1 → Is
 -- what the tables hold keeps the rules of its kind, as a plate has them, and is never more than 16 rows
 abbrev pub TablesSound : Type 0
 TablesSound =
-    ((t : MissCountedTable) → All SoundCounted (counted_rows t) × (length (counted_rows t) ≤ 16))
-    × ((t : FrameTable) → All SoundFramed (framed_rows t) × (length (framed_rows t) ≤ 16))
+    ((t : MissCountedTable) → AllByRecursion SoundCounted (counted_rows t) × (length (counted_rows t) ≤ 16))
+    × ((t : FrameTable) → AllByRecursion SoundFramed (framed_rows t) × (length (framed_rows t) ≤ 16))

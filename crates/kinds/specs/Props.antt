@@ -2,7 +2,7 @@
 use Rattle.std.specs.Prelude.{ℕ, List, [], ◌∷◌}
 use mathlib.Core.HLevel.{×_prop, Unit-prop}
 use Rattle.std.proofs.Math.Bridge.{le_prop}
-use Rattle.std.specs.List.{AllByRecursion as All}
+use Rattle.std.specs.List.{AllByRecursion}
 use Rattle.plate.specs.Rows.{Counted, Framed}
 use Rattle.plate.specs.Plans.{Within, SoundCounted, SoundFramed}
 use Rattle.kinds.specs.declared.rows.MissCountedRow.{MissCountedRow}
@@ -12,7 +12,7 @@ use Rattle.kinds.specs.Rows.{GoodCounted, counted_of, GoodFramed, framed_of}
 within_prop : (low high n : ℕ) → IsProp (Within low high n)
 within_prop low high n = ×_prop le_prop le_prop
 
-all_prop : {X : Type 0} (P : X → Type 0) → ((x : X) → IsProp (P x)) → (xs : List X) → IsProp (All P xs)
+all_prop : {X : Type 0} (P : X → Type 0) → ((x : X) → IsProp (P x)) → (xs : List X) → IsProp (AllByRecursion P xs)
 all_prop P h [] = Unit-prop
 all_prop P h (x ∷ xs) = ×_prop (h x) (all_prop P h xs)
 

@@ -3,7 +3,7 @@ use Rattle.std.specs.Prelude.{◌≡◌, ℕ, ◌+◌, ◌<◌, ◌≤◌, cond,
 use Rattle.std.proofs.Common.{sym, ap, subst, ◌∙◌, inl, inr, arith, length-take}
 use Rattle.std.proofs.Math.Logic.{∥∥₁_elim}
 use Rattle.std.specs.Borrow.{Bor}
-use Rattle.std.specs.List.{AllByRecursion as All}
+use Rattle.std.specs.List.{AllByRecursion}
 use Rattle.std.proofs.ByRecursion.{All-from_get_or}
 use Rattle.std.proofs.lemmas.List.{get_or-map, get_or-take, get_or_past, set_past, length-map, get_or-set_same, get_or-set_other, take_more_set, map_push}
 use Rattle.std.proofs.lemmas.Bool.{cases_lt, cond_below, cond_above, le-ltb}
@@ -93,7 +93,7 @@ module _ {R X : Type 0} {good : R → Type 0} {classes : R → ℕ} {says : R �
       subst (λ r. P r (at tasks i)) (sym e.1) (rw (task_here i e.0) (h (slice_index_or rows i d) (good_at i e.0)))
 
   -- what holds of what each good row says holds of each listed row
-  pub all_told : (P : X → Type 0) → ((r : R) → good r → P (says r)) → All P told
+  pub all_told : (P : X → Type 0) → ((r : R) → good r → P (says r)) → AllByRecursion P told
   all_told P h =
       All-from_get_or P told (says d) (λ i l. let m : i < len = omega (arith, rows_length) in rw (row_here i (says d) m) (h (slice_index_or rows i d) (good_at i m)))
 

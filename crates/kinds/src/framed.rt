@@ -1,6 +1,6 @@
 // The group of a frame table.
 ghost use Rattle.std.specs.Prelude.{◌≡◌, ◌<◌, ◌≤◌, min, [], length, IfSome, MatchOption, MatchResult};
-ghost use Rattle.std.specs.List.{AllByRecursion as All};
+ghost use Rattle.std.specs.List.{AllByRecursion};
 ghost use Rattle.denial.specs.Checks.{unless};
 ghost use Rattle.group.specs.Task.{at};
 ghost use Rattle.plate.specs.Plans.{SoundFramed};
@@ -45,7 +45,7 @@ impl FrameTable {
         ensures rows { result ≡ length (framed_rows self.now) }
         ensures tasks { result ≡ length (framed_tasks self.now) }
         ensures few { result ≤ 16 }
-        ensures sound { All SoundFramed (framed_rows self.now) }
+        ensures sound { AllByRecursion SoundFramed (framed_rows self.now) }
     {
         self.used()
     }

@@ -1,6 +1,6 @@
 // The group of a miss-counted table.
 ghost use Rattle.std.specs.Prelude.{◌≡◌, ◌<◌, ◌≤◌, min, [], length, MatchOption, MatchResult, OnSome};
-ghost use Rattle.std.specs.List.{AllByRecursion as All};
+ghost use Rattle.std.specs.List.{AllByRecursion};
 ghost use Rattle.denial.specs.Checks.{unless};
 ghost use Rattle.group.specs.Task.{at};
 ghost use Rattle.plate.specs.Plans.{SoundCounted};
@@ -44,7 +44,7 @@ impl MissCountedTable {
         ensures rows { result ≡ length (counted_rows self.now) }
         ensures tasks { result ≡ length (counted_tasks self.now) }
         ensures few { result ≤ 16 }
-        ensures sound { All SoundCounted (counted_rows self.now) }
+        ensures sound { AllByRecursion SoundCounted (counted_rows self.now) }
     {
         self.used()
     }

@@ -2,7 +2,7 @@
 use Rattle.std.specs.Prelude.{◌≡◌, ℕ, zero, suc, ◌+◌, ◌*◌, ◌<◌, ◌≤◌, false, ltb, List, [], ◌∷◌, ◌++◌, map, length, None, Ok, Result, ◌==◌, nat_lt, slice_index_or, refl}
 use Rattle.std.proofs.Common.{append_assoc, ap, ◌∙◌, arith}
 use Rattle.std.specs.Option.{option_or}
-use Rattle.std.specs.List.{flat_map, AllByRecursion as All}
+use Rattle.std.specs.List.{flat_map, AllByRecursion}
 use Rattle.std.proofs.lemmas.List.{get_or-map, get_or_past, length-append, length-map}
 use Rattle.std.proofs.lemmas.Bool.{le-ltb, eqb-false, ltb-false}
 use Rattle.denial.specs.declared.Rule.TheVariants.{RowCounts, Room}
@@ -28,7 +28,7 @@ pub bytes_past : {X : Type 0} (f : X → List ℕ) (rows : List X) (i : ℕ) →
 bytes_past f rows i h = get_or_past (map f rows) i [] (rw (length-map rows f) h)
 
 -- no row has more than 26 bytes
-pub bytes_short : {X : Type 0} (f : X → List ℕ) (P : X → Type 0) → ((x : X) → P x → length (f x) ≤ 26) → (rows : List X) → All P rows
+pub bytes_short : {X : Type 0} (f : X → List ℕ) (P : X → Type 0) → ((x : X) → P x → length (f x) ≤ 26) → (rows : List X) → AllByRecursion P rows
     → (i : ℕ) → length (slice_index_or (map f rows) i []) ≤ 26
 bytes_short f P h [] w i = omega arith
 bytes_short f P h (x ∷ rows) w zero = h x w.0

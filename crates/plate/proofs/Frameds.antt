@@ -1,6 +1,6 @@
 -- Frame rows: what is read is written, and what is written is read.
 use Rattle.std.proofs.Common.{◌≡◌, ℕ, zero, suc, ◌+◌, ◌-◌, ◌*◌, ◌/◌, ◌%◌, ◌<◌, ◌≤◌, Bool, false, ltb, List, [], ◌∷◌, ◌++◌, length, get_or, take, drop, None, sym, refl, ap, ◌∙◌, inl, inr, arith}
-use Rattle.std.specs.List.{flat_map, AllByRecursion as All}
+use Rattle.std.specs.List.{flat_map, AllByRecursion}
 use Rattle.std.proofs.lemmas.List.{drop_more, drop-drop, get_or-drop, get_or-take, length-take, length-take-le, length-drop, length-append, take-append-drop, take_at, get_or_past}
 use Rattle.std.proofs.ByRecursion.{All-from_get_or, All-get_or, All-weaker}
 use Rattle.std.proofs.lemmas.Bool.{cases_lt, ltb-false, le-ltb}
@@ -60,7 +60,7 @@ frames_back (a ∷ (b ∷ (c ∷ bs))) h s z =
 abbrev pub Fitting : Frame → Type 0
 Fitting f = (f.budget ≤ 4095) × (f.rank ≤ 255)
 
-pub frames_forth : (fs : List Frame) → All Fitting fs → frames_of (flat_map bytes_of_frame fs) ≡ fs
+pub frames_forth : (fs : List Frame) → AllByRecursion Fitting fs → frames_of (flat_map bytes_of_frame fs) ≡ fs
 unfolding frames_of
 frames_forth [] w = refl
 frames_forth (f ∷ fs) w =
@@ -77,7 +77,7 @@ pub joined_length : (fs : List Frame) → length (flat_map bytes_of_frame fs) �
 joined_length [] = refl
 joined_length (f ∷ fs) = omega (arith, joined_length fs)
 
-pub written_spare : (fs : List Frame) → All Fitting fs → NoSpare (flat_map bytes_of_frame fs)
+pub written_spare : (fs : List Frame) → AllByRecursion Fitting fs → NoSpare (flat_map bytes_of_frame fs)
 written_spare [] w i l = absurd (omega arith)
 written_spare (f ∷ fs) w zero l =
     front_spare (flat_map bytes_of_frame (f ∷ fs)) ∙ (omega arith)
@@ -232,7 +232,7 @@ framed_forth bs rest k row f s e =
     let u = s.classes in
     let n : ℕ = length f.frames in
     let bytes : List ℕ = flat_map bytes_of_frame f.frames in
-    let fit : All Fitting f.frames =
+    let fit : AllByRecursion Fitting f.frames =
     All-weaker _ Fitting (λ x v. (let g : x.budget ≤ f.gap = v.0.1 in omega arith, v.1.1)) f.frames s.frames in
     let size = joined_length f.frames in
     let long : length bs - k ≡ 2 + 3 * n + length rest =

@@ -1,6 +1,6 @@
 -- Whole plates: what is read is written, and what is written is read.
 use Rattle.std.proofs.Common.{◌≡◌, ℕ, zero, suc, ◌+◌, ◌*◌, ◌/◌, ◌%◌, ◌≤◌, false, not, ◌&&◌, eqb, ltb, List, [], ◌∷◌, ◌++◌, length, get_or, drop, Some, None, Ok, Err, Option, Result, sym, refl, ap, ◌∙◌, inl, inr, append_assoc, arith}
-use Rattle.std.specs.List.{flat_map, AllByRecursion as All}
+use Rattle.std.specs.List.{flat_map, AllByRecursion}
 use Rattle.std.proofs.lemmas.List.{drop-drop, drop_all, drop_at, length-append, length-drop}
 use Rattle.std.proofs.lemmas.Bool.{ltb-false, le-ltb, eqb-false, eqb-true, ne_eqb, or_parts, and_left, and_cases, not-false}
 use Rattle.denial.specs.declared.Denial.{Denial}
@@ -33,8 +33,8 @@ tail_of_framed f (Err d) plan e = let z : ◌≡◌ {A = ℕ} 0 1 = cc in absurd
 -- what a plan that was read says of the bytes from k on
 pub record Read (bs : List ℕ) (m n k : ℕ) (plan : Plan) : Type 0 where
   pub counts : (length plan.counted ≡ m) × (length plan.framed ≡ n)
-  pub counted : All SoundCounted plan.counted
-  pub framed : All SoundFramed plan.framed
+  pub counted : AllByRecursion SoundCounted plan.counted
+  pub framed : AllByRecursion SoundFramed plan.framed
   pub bytes : flat_map counted_bytes plan.counted ++ flat_map framed_bytes plan.framed ≡ drop k bs
 
 more_framed : (bs : List ℕ) (n k j : ℕ) (plan rest : Plan) (f : Framed)
@@ -106,7 +106,7 @@ read_counted bs small (suc m) n k row plan e =
 later : (bs xs ys : List ℕ) (k n : ℕ) → drop k bs ≡ xs ++ ys → length xs ≡ n → drop (k + n) bs ≡ ys
 later bs xs ys k n e l = sym (drop-drop n k bs) ∙ ap (drop n) e ∙ drop_at xs ys n l
 
-write_framed : (bs : List ℕ) (fs : List Framed) (k row : ℕ) → All SoundFramed fs → drop k bs ≡ flat_map framed_bytes fs
+write_framed : (bs : List ℕ) (fs : List Framed) (k row : ℕ) → AllByRecursion SoundFramed fs → drop k bs ≡ flat_map framed_bytes fs
     → framed_from bs (length fs) (8 * k) row ≡ Ok (record { counted = []; framed = fs })
 unfolding framed_from
 write_framed bs [] k row s e =
@@ -123,7 +123,7 @@ write_framed bs (f ∷ fs) k row s e =
     let p : 8 * k + (16 + 24 * n) ≡ 8 * j = omega arith in
     rw (forth.fits, forth.same, forth.count, p, ih)
 
-write_counted : (bs : List ℕ) (cs : List Counted) (fs : List Framed) (k row : ℕ) → All SoundCounted cs → All SoundFramed fs
+write_counted : (bs : List ℕ) (cs : List Counted) (fs : List Framed) (k row : ℕ) → AllByRecursion SoundCounted cs → AllByRecursion SoundFramed fs
     → drop k bs ≡ flat_map counted_bytes cs ++ flat_map framed_bytes fs
     → counted_from bs (length cs) (length fs) (8 * k) row ≡ Ok (record { counted = cs; framed = fs })
 unfolding counted_from
@@ -213,13 +213,13 @@ read_is_written bs small plan e =
     not_from_eqb x y h = eqb-true x y (not-false (eqb x y) h)
 
 -- how long rows are
-counted_long : (cs : List Counted) → All SoundCounted cs → length (flat_map counted_bytes cs) ≤ 12 * length cs
+counted_long : (cs : List Counted) → AllByRecursion SoundCounted cs → length (flat_map counted_bytes cs) ≤ 12 * length cs
 counted_long [] s = omega arith
 counted_long (c ∷ cs) s =
     let w = s.0.classes in
     omega (arith, counted_long cs s.1, length-append (counted_bytes c) (flat_map counted_bytes cs))
 
-framed_long : (fs : List Framed) → All SoundFramed fs → length (flat_map framed_bytes fs) ≤ 26 * length fs
+framed_long : (fs : List Framed) → AllByRecursion SoundFramed fs → length (flat_map framed_bytes fs) ≤ 26 * length fs
 framed_long [] s = omega arith
 framed_long (f ∷ fs) s =
     let w = s.0.classes in

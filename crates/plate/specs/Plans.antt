@@ -1,7 +1,7 @@
 -- A whole plate: the rows that it decodes to, or its first fault; and the bytes that rows encode to. Assumes nothing.
 use Rattle.std.specs.Prelude.{◌≡◌, ℕ, zero, suc, ◌+◌, ◌-◌, ◌*◌, ◌/◌, ◌%◌, ◌<◌, ◌≤◌, not, ◌&&◌, ◌||◌, List, [], ◌∷◌, ◌++◌, length, Ok, Err, Option, Result, ◌==◌, ◌≢◌, nat_lt, slice_index}
 use Rattle.std.specs.Option.{option_or}
-use Rattle.std.specs.List.{flat_map, AllByRecursion as All}
+use Rattle.std.specs.List.{flat_map, AllByRecursion}
 use Rattle.denial.specs.declared.Denial.{Denial}
 use Rattle.denial.specs.declared.Rule.TheVariants.{Edition, RowCounts, Extra}
 use Rattle.denial.specs.Numbers.{denied}
@@ -84,22 +84,22 @@ pub record SoundCounted (c : Counted) : Type 0 where
   pub gap : Within 1 4095 c.gap
   pub budget : Within 1 c.gap c.budget
   pub classes : Within 1 8 (length c.ranks)
-  pub ranks : All (Within 1 255) c.ranks
+  pub ranks : AllByRecursion (Within 1 255) c.ranks
   pub rise : (i : ℕ) → i + 1 < length c.ranks → slice_index c.ranks i ≤ slice_index c.ranks (i + 1)
 
 -- a frame row that keeps the rules of its kind
 pub record SoundFramed (f : Framed) : Type 0 where
   pub gap : Within 1 4095 f.gap
   pub classes : Within 1 8 (length f.frames)
-  pub frames : All (λ x. Within 1 f.gap x.budget × Within 1 255 x.rank) f.frames
+  pub frames : AllByRecursion (λ x. Within 1 f.gap x.budget × Within 1 255 x.rank) f.frames
 
 -- a plan that a plate can hold: at most 16 rows of each kind, not none at all, and each row keeps its rules
 pub record Sound (plan : Plan) : Type 0 where
   pub some : 1 ≤ length plan.counted + length plan.framed
   pub few_counted : length plan.counted ≤ 16
   pub few_framed : length plan.framed ≤ 16
-  pub counted : All SoundCounted plan.counted
-  pub framed : All SoundFramed plan.framed
+  pub counted : AllByRecursion SoundCounted plan.counted
+  pub framed : AllByRecursion SoundFramed plan.framed
 
 -- What is owed of reading and writing. A list of bytes has every number below 256.
 abbrev pub Bytes : List ℕ → Type 0

@@ -1,6 +1,6 @@
 -- Newlines: each line has one, at its end.
 use Rattle.std.proofs.Common.{◌≡◌, ℕ, zero, suc, ◌+◌, ◌%◌, ◌^◌, ◌<◌, ◌≤◌, cond, eqb, List, [], ◌∷◌, ◌++◌, codes, decimal, sym, refl, ap, ◌∙◌, inl, inr, add_assoc, zero-add, arith}
-use Rattle.std.specs.List.{flat_map, AllByRecursion as All}
+use Rattle.std.specs.List.{flat_map, AllByRecursion}
 use Rattle.std.proofs.lemmas.Fmt.{decimal_by_steps}
 use Rattle.std.proofs.lemmas.List.{append_assoc, append-nil}
 use Rattle.std.proofs.lemmas.Bool.{ne_eqb, cases_order}
@@ -25,7 +25,7 @@ in_decimal =
 pub in_column : (n : ℕ) → n < 2 ^ 64 → newlines (column n) ≡ 0
 in_column n h = newlines-++ (decimal n) (codes " ") ∙ omega (arith, in_decimal n h)
 
-pub in_columns : (ns : List ℕ) → All (λ n. n < 2 ^ 64) ns → newlines (flat_map column ns) ≡ 0
+pub in_columns : (ns : List ℕ) → AllByRecursion (λ n. n < 2 ^ 64) ns → newlines (flat_map column ns) ≡ 0
 in_columns [] h = refl
 in_columns (n ∷ ns) h = newlines-++ (column n) (flat_map column ns) ∙ omega (arith, in_column n h.0, in_columns ns h.1)
 

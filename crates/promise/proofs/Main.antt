@@ -1,6 +1,6 @@
 -- Every trace of a new dispatcher over a lawful group keeps the promise.
 use Rattle.std.proofs.Common.{◌≡◌, ℕ, zero, suc, ◌+◌, ◌-◌, ◌<◌, ◌≤◌, Bool, true, false, cond, ◌⊎◌, List, [], ◌∷◌, length, take, Some, None, Option, Result, sym, refl, ap, ◌∙◌, inl, inr, arith}
-use Rattle.std.specs.List.{AllByRecursion as All}
+use Rattle.std.specs.List.{AllByRecursion}
 use Rattle.std.proofs.ByRecursion.{All-append, All-weaker}
 use Rattle.denial.specs.declared.Denial.{Denial}
 use Rattle.denial.specs.Checks.{unless}
@@ -62,7 +62,7 @@ module _ (ts : List Task) (places : List ℕ) (grp : SoundGroup ts places) where
   -- (a) ----------------------------------------------------------------------------------------------------------------------
 
   abbrev pub AllTimely : (k : ℕ) → Standing → Past → Type 0
-  AllTimely k l p = All (λ x. Timely ts k x.class x.way x.age) p.ended
+  AllTimely k l p = AllByRecursion (λ x. Timely ts k x.class x.way x.age) p.ended
 
   timely_keeps : (k : ℕ) → Keeps ts places k (AllTimely k)
   timely_keeps k = record {
@@ -247,7 +247,7 @@ module _ (ts : List Task) (places : List ℕ) (grp : SoundGroup ts places) where
   TrueRecord cs e = Timely ts e.task e.class e.way e.age × TellsOfJob ts places cs e
 
   new_true : (s : State) → Led ts places s → (cs : List Call) → Trace ts places cs → s ≡ state_after ts places cs → (mark : Bool) (before after : List End) →
-      tick_fault ts s mark (length before) ≡ None → Recorded (tick_ends ts s mark) before after → All (TrueRecord cs) (take (length (tick_ends ts s mark)) after)
+      tick_fault ts s mark (length before) ≡ None → Recorded (tick_ends ts s mark) before after → AllByRecursion (TrueRecord cs) (take (length (tick_ends ts s mark)) after)
   new_true s h cs tr here mark before after f m =
       All-weaker (Tells ts s mark (runner ts s) (length ts)) (TrueRecord cs) one
       (take (length (tick_ends ts s mark)) after) (all_tell ts s mark (runner ts s) (length ts) (take (length (tick_ends ts s mark)) after) m.front)
@@ -276,11 +276,11 @@ module _ (ts : List Task) (places : List ℕ) (grp : SoundGroup ts places) where
 
   tick_true : (s : State) → Led ts places s → (cs : List Call) → Trace ts places cs → s ≡ state_after ts places cs → (mark : Bool) (before : List End) (answer : Result (Option ℕ × ℕ) Denial) (after : List End)
       (o : Option Denial) → tick_fault ts s mark (length before) ≡ o → answer ≡ unless o (runner ts s, length (tick_ends ts s mark)) → Listed o (tick_ends ts s mark) before after →
-      All (TrueRecord cs) (records_of (tick mark before answer after))
+      AllByRecursion (TrueRecord cs) (records_of (tick mark before answer after))
   tick_true s h cs tr here mark before answer after (Some d) f e m = rw e tt
   tick_true s h cs tr here mark before answer after None f e m = rw e (new_true s h cs tr here mark before after f m)
 
-  call_true : (c : Call) (cs : List Call) → Trace ts places (c ∷ cs) → All (TrueRecord cs) (records_of c)
+  call_true : (c : Call) (cs : List Call) → Trace ts places (c ∷ cs) → AllByRecursion (TrueRecord cs) (records_of c)
   call_true (start before answer after) cs tr = tt
   call_true (release k answer) cs tr = tt
   call_true (tick mark before answer after) cs tr =
@@ -292,7 +292,7 @@ module _ (ts : List Task) (places : List ℕ) (grp : SoundGroup ts places) where
   call_true (ask_next answer) cs tr = tt
   call_true (ask_expiry answer) cs tr = tt
 
-  pub ends_timely : (cs : List Call) → Trace ts places cs → All (λ e. Timely ts e.task e.class e.way e.age) (records cs)
+  pub ends_timely : (cs : List Call) → Trace ts places cs → AllByRecursion (λ e. Timely ts e.task e.class e.way e.age) (records cs)
   ends_timely [] tr = tt
   ends_timely (c ∷ cs) tr =
       All-append (λ e. Timely ts e.task e.class e.way e.age) (records_of c) (records cs)

@@ -1,6 +1,6 @@
 -- What is promised of every trace of a new dispatcher over any lawful group. Assumes nothing.
 use Rattle.std.specs.Prelude.{◌≡◌, ℕ, ◌+◌, ◌<◌, ◌≤◌, Bool, true, false, List, [], ◌∷◌, length, Some, Ok, Option, nat_le}
-use Rattle.std.specs.List.{AllByRecursion as All}
+use Rattle.std.specs.List.{AllByRecursion}
 use Rattle.denial.specs.Checks.{unless}
 use Rattle.group.specs.Task.{Task, Lawful, Position, Class, at, place, terms_of}
 use Rattle.kinds.specs.MissCounted.{IsMissCounted}
@@ -31,7 +31,7 @@ Timely ts k class way age = (R : ℕ) → HasBound ts k class R → in_time R wa
 
 -- (a) every job of task k that has ended was in time if its class has a bound; a pending one is younger than the bound
 pub record EndsInTime (ts : List Task) (k : ℕ) (q : Reading) : Type 0 where
-  pub ended : All (λ x. Timely ts k x.class x.way x.age) q.ended
+  pub ended : AllByRecursion (λ x. Timely ts k x.class x.way x.age) q.ended
   pub pending : (c age used R : ℕ) → q.slot ≡ Pending c age used → HasBound ts k c R → age < R
 
 -- of these ends, the newest first, the last was a cut: the miss was not tolerated, and the job ran for the whole budget of its class
@@ -73,13 +73,13 @@ pub record TellsOfJob (ts : List Task) (places : List ℕ) (before : List Call) 
 -- every record in a trace does
 abbrev pub RecordsTrue : List Task → (places : List ℕ) → List Call → Type 0
 RecordsTrue ts places [] = Unit {0}
-RecordsTrue ts places (c ∷ cs) = All (TellsOfJob ts places cs) (records_of c) × RecordsTrue ts places cs
+RecordsTrue ts places (c ∷ cs) = AllByRecursion (TellsOfJob ts places cs) (records_of c) × RecordsTrue ts places cs
 
 -- what is promised of a trace: (a) to (d) of every task by its reading; (a) of every record by its own class, way and age; and that
 -- the records tell of the jobs that the reading has
 pub record Kept (ts : List Task) (places : List ℕ) (cs : List Call) : Type 0 where
   pub tasks : (k : ℕ) → k < length ts → Promised ts (state_after ts places cs) k (reading ts places cs k)
-  pub ends : All (λ e. Timely ts e.task e.class e.way e.age) (records cs)
+  pub ends : AllByRecursion (λ e. Timely ts e.task e.class e.way e.age) (records cs)
   pub told : RecordsTrue ts places cs
 
 -- a lawful group, each task at a position of its own

@@ -17,7 +17,7 @@ loop-task-preserved g c =
     let s = state_of d.clock d.started ps d.table.seats in
     let l : c.loop-task.task < length ts = omega arith in
     let e = seen-is ts d.clock d.started ps d.table.seats (g.met.G.Group.placed d.group) c.loop-task.task l c.seat.result.slot (ap (λ x. x.slot) c.seat.ensures) in
-    let o : c.one-pending_count.result ≡ cond (is_pending (slot_of s c.loop-task.task)) 1 0 = c.one-pending_count.ensures ∙ ap (λ x. cond (is_pending x) 1 0) e in
+    let o : c.one_pending-count.result ≡ cond (is_pending (slot_of s c.loop-task.task)) 1 0 = c.one_pending-count.ensures ∙ ap (λ x. cond (is_pending x) 1 0) e in
     let m = sum_more c.loop-task.task (λ i. cond (is_pending (slot_of s i)) 1 0) in
     let q = at_most_one (is_pending (slot_of s c.loop-task.task)) in
     (omega (arith, o, m, c.loop-task.invariant.0), omega (arith, o, q, c.loop-task.invariant.1))
