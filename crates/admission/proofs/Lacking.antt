@@ -1,11 +1,10 @@
 -- The first class that must have a bound and has none, task by task.
-use Rattle.std.proofs.Common.{◌≡◌, ℕ, suc, ◌+◌, ◌<◌, ◌≤◌, Bool, true, false, cond, ◌⊎◌, List, length, Some, None, Option, sym, refl, ap, ◌∙◌, inl, inr, add-one, arith}
+use Rattle.std.proofs.Common.{◌≡◌, ℕ, suc, ◌+◌, ◌<◌, Bool, true, false, cond, ◌⊎◌, List, length, Some, None, Option, sym, refl, ap, ◌∙◌, inl, inr, add-one, arith}
 use Rattle.std.specs.Option.{option_map, option_or}
 use Rattle.std.specs.Bool.{then_some}
-use Rattle.denial.specs.declared.Denial.{Denial}
 use Rattle.denial.specs.declared.Rule.TheVariants.{Unbounded}
 use Rattle.denial.specs.Numbers.{denied}
-use Rattle.find.specs.First.{first, first_pair, Searched, NoPair, SearchedPair}
+use Rattle.find.specs.First.{first, first_pair, Searched, NoPair}
 use Rattle.find.proofs.Firsts.{first_says, pair_is}
 use Rattle.group.specs.Task.{Task, at}
 use Rattle.admission.specs.Start.{lacking, unbounded_fault}

@@ -1,16 +1,14 @@
 -- The marks of ranks, class by class and task by task.
-use Rattle.std.proofs.Common.{◌≡◌, ℕ, zero, suc, ◌+◌, ◌-◌, ◌<◌, ◌≤◌, min, Bool, true, false, cond, ◌&&◌, ◌||◌, eqb, ltb, ◌≢◌, ◌⊎◌, List, [], ◌∷◌, ◌++◌, map, length, get_or, take, drop, set, replicate, Some, None, Option, sym, refl, ap, ◌∙◌, inl, inr, add-one, arith}
+use Rattle.std.proofs.Common.{◌≡◌, ℕ, suc, ◌+◌, ◌<◌, ◌≤◌, Bool, true, false, cond, ◌||◌, eqb, List, [], ◌∷◌, ◌++◌, length, get_or, take, drop, set, replicate, Some, None, Option, sym, refl, ap, ◌∙◌, inl, inr, add-one, arith}
 use Rattle.std.specs.Option.{option_or}
-use Rattle.std.specs.List.{range_with_len}
 use Rattle.std.proofs.lemmas.List.{take_more, get_or-set_same, get_or-set_other, drop-set-lt, take-append-drop, length-take-le, get_or-take, get_or-replicate, length-replicate, length-append, get_or_append_left}
 use Rattle.std.proofs.lemmas.List.FromFn.{fill_by_all, length-map-range_with_len, get_or-map-range_with_len}
-use Rattle.std.proofs.lemmas.Bool.{cases_eq, eq-eqb, ne_eqb, or_cases, or_left, or_right, both_ways}
-use Rattle.find.specs.First.{first, Searched}
-use Rattle.find.proofs.Firsts.{first_says}
+use Rattle.std.proofs.lemmas.Bool.{cases_eq, eq-eqb, ne_eqb}
+use Rattle.find.specs.First.{first}
 use Rattle.group.specs.declared.meaning.Terms.{Terms}
 use Rattle.group.specs.Task.{Task, at, no_terms}
-use Rattle.admission.specs.Start.{uses, share, mark_of, mark, marks, sharing}
-use Rattle.admission.specs.Ranks.{marked_byte, MarkedBy, HoldsMarks, LowestSharer}
+use Rattle.admission.specs.Start.{uses, mark_of, mark, marks}
+use Rattle.admission.specs.Ranks.{marked_byte, MarkedBy, HoldsMarks}
 
 -- one class more is used
 pub uses_last : (cs : List Terms) (c : Terms) (r : ℕ) → uses (cs ++ (c ∷ [])) r ≡ (uses cs r || eqb c.rank r)

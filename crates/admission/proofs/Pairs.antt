@@ -1,10 +1,10 @@
 -- The first pair of tasks that share a rank, task by task.
-use Rattle.std.proofs.Common.{◌≡◌, ℕ, zero, suc, ◌+◌, ◌-◌, ◌<◌, ◌≤◌, Bool, true, false, cond, ◌&&◌, ◌||◌, eqb, ltb, ◌⊎◌, List, length, Some, None, Option, sym, refl, ap, ◌∙◌, inl, inr, arith, MatchOption}
-use Rattle.std.proofs.lemmas.Bool.{cases_lt, cases_Bool, both_ways, ltb-true, ltb-false, and_parts}
+use Rattle.std.proofs.Common.{◌≡◌, ℕ, ◌+◌, ◌<◌, ◌≤◌, Bool, true, false, cond, ◌&&◌, ltb, ◌⊎◌, List, Some, None, Option, sym, refl, ap, ◌∙◌, inl, inr, arith, MatchOption}
+use Rattle.std.proofs.lemmas.Bool.{both_ways, ltb-true, ltb-false, and_parts}
 use Rattle.find.specs.First.{first_pair, SearchedPair}
 use Rattle.find.proofs.Firsts.{pair_is}
 use Rattle.group.specs.Task.{Task}
-use Rattle.admission.specs.Start.{sharing, share}
+use Rattle.admission.specs.Start.{sharing}
 use Rattle.admission.specs.Ranks.{LowestSharer, better}
 
 -- a pair comes no later than i and j

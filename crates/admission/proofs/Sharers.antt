@@ -1,5 +1,5 @@
 -- The lowest task that shares a rank with a task, by the marks.
-use Rattle.std.proofs.Common.{◌≡◌, ℕ, zero, suc, ◌+◌, ◌-◌, ◌<◌, ◌≤◌, min, Bool, true, false, cond, ◌&&◌, ◌||◌, eqb, ltb, ◌⊎◌, List, [], ◌∷◌, ◌++◌, length, get_or, take, Some, None, Option, sym, refl, ap, ◌∙◌, inl, inr, arith}
+use Rattle.std.proofs.Common.{◌≡◌, ℕ, zero, suc, ◌+◌, ◌-◌, ◌<◌, ◌≤◌, min, Bool, true, false, ◌||◌, ltb, ◌⊎◌, List, [], ◌∷◌, ◌++◌, length, get_or, take, Some, None, Option, sym, refl, ap, ◌∙◌, inl, inr, arith}
 use native.Mathlib.Numerals.{unary_clauses}
 use Rattle.std.proofs.lemmas.List.{take_more}
 use Rattle.std.proofs.lemmas.Bool.{cases_lt, eq-eqb, or_cases, or_left, or_right, both_ways, ltb-true, lt-ltb, and_parts, and_from}
@@ -7,7 +7,7 @@ use Rattle.find.specs.First.{first, Searched}
 use Rattle.find.proofs.Firsts.{first_says}
 use Rattle.group.specs.declared.meaning.Terms.{Terms}
 use Rattle.group.specs.Task.{Task, at, no_terms}
-use Rattle.admission.specs.Start.{uses, share, mark_of, mark, sharing}
+use Rattle.admission.specs.Start.{uses, share, mark_of, mark}
 use Rattle.admission.specs.Ranks.{HoldsMarks, LowestSharer}
 
 -- r is the lowest task that shares a rank with these classes of a task, or the task itself if no lower one does

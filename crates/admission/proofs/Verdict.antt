@@ -1,7 +1,7 @@
 -- What the answer of a start means.
-use Rattle.std.proofs.Common.{◌≡◌, ℕ, zero, suc, ◌+◌, ◌-◌, ◌<◌, ◌≤◌, Bool, true, false, cond, not, ◌&&◌, ◌||◌, eqb, ltb, ◌⊎◌, List, [], ◌∷◌, ◌++◌, length, get_or, is_some, Some, None, Ok, Err, Option, Result, sym, refl, ap, ◌∙◌, inl, inr, arith}
+use Rattle.std.proofs.Common.{◌≡◌, ℕ, zero, suc, ◌<◌, ◌≤◌, Bool, true, false, not, ◌||◌, eqb, ltb, ◌⊎◌, List, [], ◌∷◌, length, get_or, is_some, Some, None, Ok, Err, Option, Result, sym, refl, ap, ◌∙◌, inl, inr, arith}
 use Rattle.std.specs.Option.{option_or, option_map}
-use Rattle.std.proofs.lemmas.Bool.{cases_Bool, cases_order, both_ways, eqb-true, eq-eqb, ltb-true, ltb-false, lt-ltb, le-ltb, and_parts, and_from, or_cases, or_left, or_right, not-true, not_from_false}
+use Rattle.std.proofs.lemmas.Bool.{cases_order, both_ways, eqb-true, eq-eqb, ltb-true, ltb-false, lt-ltb, le-ltb, and_parts, and_from, or_cases, or_left, or_right, not-true, not_from_false}
 use Rattle.denial.specs.declared.Denial.{Denial}
 use Rattle.denial.specs.declared.Rule.TheVariants.{Started, Scratch, TaskCount, SharedRank, Unbounded}
 use Rattle.denial.specs.Numbers.{denied, number_of}
@@ -10,9 +10,9 @@ use Rattle.find.specs.First.{first_pair, SearchedPair, NoPair}
 use Rattle.find.proofs.Firsts.{pair_says, pair_is}
 use Rattle.group.specs.declared.meaning.Terms.{Terms}
 use Rattle.group.specs.Task.{Task, Class, at, terms_of, no_terms}
-use Rattle.bounds.specs.Bound.{bound, Bounded, count_fault}
+use Rattle.bounds.specs.Bound.{bound, count_fault}
 use Rattle.bounds.proofs.Checked.{both_clear, when_clear, count_clear}
-use Rattle.bounds.proofs.Least.{bound_absent, bound_least, bound_within}
+use Rattle.bounds.proofs.Least.{bound_absent, bound_least}
 use Rattle.admission.specs.Start.{uses, share, sharing, shared_fault, lacking, unbounded_fault, early_fault, plan_fault, start_fault, Shares, Lacks, Startable, StartLaw}
 
 -- Ranks ----------------------------------------------------------------------------------------------------------------------

@@ -1,7 +1,7 @@
 -- The steps by which marks are written and read. Assumes nothing.
-use Rattle.std.specs.Prelude.{◌≡◌, ℕ, ◌<◌, ◌≤◌, Bool, true, false, cond, ◌&&◌, List, length, drop, Some, None, Option, ◌==◌, nat_lt, slice_index}
+use Rattle.std.specs.Prelude.{◌≡◌, ℕ, ◌<◌, ◌≤◌, Bool, true, cond, ◌&&◌, List, length, drop, Some, None, Option, ◌==◌, nat_lt, slice_index}
 use Rattle.group.specs.declared.meaning.Terms.{Terms}
-use Rattle.group.specs.Task.{Task, at}
+use Rattle.group.specs.Task.{Task}
 use Rattle.admission.specs.Start.{uses, mark, sharing}
 
 -- a byte once a task with this mark has used its rank, or not: the first mark stays

@@ -1,4 +1,6 @@
 // Whether a group of work may be started: no two of its tasks share a rank, and every class that must have a bound has one.
+#![tactic(auto)]
+
 mod ranks;
 mod strict;
 

@@ -1,12 +1,12 @@
 -- The bound is the least number of ticks that is enough, and a class ranked as high has one that is no larger.
-use Rattle.std.proofs.Common.{◌≡◌, ℕ, zero, suc, ◌+◌, ◌-◌, ◌<◌, ◌≤◌, max, Bool, true, false, cond, eqb, leb, ◌⊎◌, List, [], ◌∷◌, length, get_or, Some, None, Option, sym, refl, ap, ◌∙◌, inl, inr, arith}
+use Rattle.std.proofs.Common.{◌≡◌, ℕ, zero, suc, ◌<◌, ◌≤◌, max, Bool, true, false, cond, eqb, leb, List, [], ◌∷◌, length, Some, None, Option, sym, refl, ap, inl, inr, arith}
 use Rattle.std.specs.Option.{option_map}
-use Rattle.std.proofs.lemmas.Bool.{leb-true, leb-false, le-leb, lt-leb, cases_lt, both_ways}
+use Rattle.std.proofs.lemmas.Bool.{leb-true, le-leb, lt-leb, cases_lt, both_ways}
 use Rattle.find.specs.First.{first, Searched}
 use Rattle.find.proofs.Firsts.{first_says, first-is}
 use Rattle.group.specs.declared.meaning.Terms.{Terms}
-use Rattle.group.specs.Task.{Task, Class, Lawful, at, terms_of, no_terms}
-use Rattle.bounds.specs.Bound.{sum, jobs, largest, request, workload, Bounded, LeastBound, Unbounded, bound, HigherSooner, SaysBound}
+use Rattle.group.specs.Task.{Task, Class, at, terms_of}
+use Rattle.bounds.specs.Bound.{jobs, largest, request, workload, Bounded, LeastBound, Unbounded, bound, HigherSooner, SaysBound}
 use Rattle.bounds.proofs.Grows.{AllLawful, weight, sum_grows, workload_grows}
 
 -- whether suc j ticks are enough

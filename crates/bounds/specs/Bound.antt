@@ -1,5 +1,5 @@
 -- The bound of a class: how old a job of that class can be when it ends. Assumes nothing.
-use Rattle.std.specs.Prelude.{◌≡◌, ℕ, zero, suc, ◌+◌, ◌-◌, ◌/◌, ◌<◌, ◌≤◌, max, Bool, cond, ◌||◌, leb, List, [], ◌∷◌, length, Some, None, Option, Result, MatchOption, ◌==◌, nat_le, nat_lt}
+use Rattle.std.specs.Prelude.{◌≡◌, ℕ, zero, suc, ◌+◌, ◌-◌, ◌/◌, ◌<◌, ◌≤◌, max, cond, ◌||◌, leb, List, [], ◌∷◌, length, Some, Option, Result, MatchOption, ◌==◌, nat_le, nat_lt}
 use Rattle.std.specs.Option.{option_or, option_map}
 use Rattle.denial.specs.declared.Denial.{Denial}
 use Rattle.denial.specs.declared.Rule.TheVariants.{TaskCount, NoTask, NoClass}

@@ -1,4 +1,6 @@
 // The bound of a class: the most ticks from the release of a job of that class to its end, over any group of work.
+#![tactic(auto)]
+
 mod step;
 mod work;
 

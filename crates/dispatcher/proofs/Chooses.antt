@@ -1,18 +1,18 @@
 -- Lists of keys, and the foremost of them.
-use Rattle.std.proofs.Common.{◌≡◌, ℕ, suc, ◌+◌, ◌-◌, ◌<◌, ◌≤◌, min, Bool, true, false, cond, eqb, ltb, ◌⊎◌, List, length, get_or, set, replicate, is_some, Some, None, Option, sym, refl, ap, ◌∙◌, inl, inr, arith}
+use Rattle.std.proofs.Common.{◌≡◌, ℕ, ◌+◌, ◌-◌, ◌<◌, ◌≤◌, min, Bool, true, false, ltb, ◌⊎◌, List, length, get_or, set, replicate, is_some, None, Option, sym, refl, ap, ◌∙◌, inl, inr, arith}
 use Rattle.std.proofs.lemmas.List.{length-set, length-replicate, get_or-set_same, get_or-set_other, get_or_past}
 use Rattle.std.proofs.lemmas.Bool.{cases_lt, both_ways}
 use Rattle.choose.specs.Foremost.{foremost, key_ahead, goes_ahead}
 use Rattle.choose.proofs.Chosen.{present, foremost_same, foremost_beyond}
-use Rattle.group.specs.Task.{Task, at, terms_of}
+use Rattle.group.specs.Task.{Task, at}
 use Rattle.dispatcher.specs.declared.keys.ByRank.{ByRank}
 use Rattle.dispatcher.specs.declared.keys.ByExpiry.{ByExpiry}
 use Rattle.dispatcher.specs.declared.slot.Seat.{Seat}
 use Rattle.dispatcher.specs.declared.slot.Slot.{Slot}
 use Rattle.dispatcher.specs.declared.slot.Slot.TheVariants.{Empty, Pending, Halted}
 use Rattle.dispatcher.specs.Slots.{is_pending, rank_of, age_of}
-use Rattle.dispatcher.specs.State.{State, state_of, slot_of, waits, outranks, runner, new_seat}
-use Rattle.dispatcher.specs.Questions.{ticks_left, expires_sooner, expiry_answer}
+use Rattle.dispatcher.specs.State.{state_of, slot_of, waits, outranks, runner, new_seat}
+use Rattle.dispatcher.specs.Questions.{expires_sooner, expiry_answer}
 use Rattle.dispatcher.specs.Keys.{sooner, rank_key, expiry_key, KeysOf}
 use Rattle.dispatcher.proofs.NewSeats.{getD_same}
 use Rattle.dispatcher.proofs.Released.{standing_is}

@@ -1,8 +1,7 @@
 -- Who runs is the foremost pending job by rank, and the next expiry the foremost by ticks left.
-use Rattle.std.proofs.Common.{ℕ, ◌-◌, Bool, ltb, List, length}
-use Rattle.std.specs.Cmp.{IsStrictWeakOrder}
+use Rattle.std.proofs.Common.{ltb, List, length}
 use Rattle.std.proofs.lemmas.List.MinMax.{IsStrictWeakOrder-by_number, IsStrictWeakOrder-flip}
-use Rattle.choose.specs.Foremost.{IsForemost, IsLowest, Orders, ForemostFound}
+use Rattle.choose.specs.Foremost.{IsForemost, IsLowest, ForemostFound}
 use Rattle.choose.proofs.Chosen as chosen
 use Rattle.group.specs.Task.{Task, at}
 use Rattle.dispatcher.specs.Slots.{rank_of}

@@ -1,7 +1,6 @@
 -- Seats in a list.
-use Rattle.std.proofs.Common.{◌≡◌, ℕ, zero, suc, ◌<◌, ◌≤◌, List, [], ◌∷◌, length, get_or, replicate, sym, refl, ap, ◌∙◌, arith}
+use Rattle.std.proofs.Common.{◌≡◌, ℕ, zero, suc, get_or, replicate, refl, arith}
 use Rattle.dispatcher.specs.State.{new_seat}
-use Rattle.dispatcher.specs.Slots.{spent}
 use Rattle.dispatcher.specs.Steady.{Steady}
 
 -- past the end as within, a list of one value has that value

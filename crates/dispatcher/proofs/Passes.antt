@@ -1,12 +1,11 @@
 -- A tick, task by task: the seats, the positions and the list of records after one task more.
-use Rattle.std.proofs.Common.{◌≡◌, ℕ, zero, suc, ◌+◌, ◌-◌, ◌<◌, ◌≤◌, Bool, true, cond, ◌⊎◌, List, [], ◌∷◌, ◌++◌, length, get_or, drop, set, Some, None, Option, sym, refl, ap, ◌∙◌, inl, inr, append_assoc, add-zero, arith}
+use Rattle.std.proofs.Common.{◌≡◌, ℕ, ◌+◌, ◌-◌, ◌<◌, ◌≤◌, Bool, true, ◌⊎◌, List, [], ◌∷◌, ◌++◌, length, get_or, drop, set, Some, None, Option, sym, refl, ap, ◌∙◌, inl, inr, append_assoc, add-zero, arith}
 use Rattle.std.proofs.lemmas.List.{length-set, length-append, get_or-set_same, get_or-set_other, set-append_right, drop_more, append-nil}
-use Rattle.std.proofs.lemmas.Bool.{cases_eq}
 use Rattle.group.specs.Task.{Task, at, place}
 use Rattle.dispatcher.specs.declared.end.End.{End}
 use Rattle.dispatcher.specs.declared.slot.Seat.{Seat}
 use Rattle.dispatcher.specs.Slots.{way_of, end_record}
-use Rattle.dispatcher.specs.State.{State, state_of, standing, new_seat, is_running, pending_count, tick_seat, settled_place}
+use Rattle.dispatcher.specs.State.{State, state_of, new_seat, is_running, pending_count, tick_seat, settled_place}
 use Rattle.dispatcher.specs.Records.{ends_at, ends_upto}
 use Rattle.dispatcher.specs.Passing.{listed, noted, Passed}
 use Rattle.dispatcher.proofs.Released.{standing_is}

@@ -1,5 +1,5 @@
 -- What a release and a resume check and leave, from what the dispatcher holds.
-use Rattle.std.proofs.Common.{◌≡◌, ℕ, ◌+◌, ◌<◌, ◌≤◌, Bool, true, false, not, ◌&&◌, leb, List, length, get_or, set, Some, None, Ok, Err, Option, Result, sym, refl, ap, ◌∙◌, arith}
+use Rattle.std.proofs.Common.{◌≡◌, ℕ, ◌<◌, ◌≤◌, Bool, not, leb, List, length, get_or, set, None, Result, sym, ap, ◌∙◌, arith}
 use Rattle.std.specs.Option.{option_or}
 use Rattle.denial.specs.declared.Denial.{Denial}
 use Rattle.denial.specs.declared.Rule.TheVariants.{NotHalted}
@@ -9,10 +9,10 @@ use Rattle.group.specs.Task.{Task, at, place}
 use Rattle.dispatcher.specs.declared.slot.Seat.{Seat}
 use Rattle.dispatcher.specs.declared.slot.Slot.{Slot}
 use Rattle.dispatcher.specs.Slots.{is_halted}
-use Rattle.dispatcher.specs.State.{State, state_of, standing, stands, seated, new_seat, slot_of, release_seat, resume_seat, released, resumed}
+use Rattle.dispatcher.specs.State.{state_of, standing, stands, seated, new_seat, slot_of, release_seat, resume_seat, released, resumed}
 use Rattle.dispatcher.specs.Refusals.{unstarted_fault, no_task_fault, seat_fault, release_fault, resume_fault, release_answer, resume_answer}
-use Rattle.dispatcher.proofs.Seated.{length_seated, seated_at, seated_set}
-use Rattle.bounds.proofs.Checked.{clear, both_clear, when_clear}
+use Rattle.dispatcher.proofs.Seated.{seated_at, seated_set}
+use Rattle.bounds.proofs.Checked.{both_clear, when_clear}
 use Rattle.dispatcher.proofs.Faults.{seats_enough}
 use Rattle.std.proofs.lemmas.Bool.{leb-false}
 

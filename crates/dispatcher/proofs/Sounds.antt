@@ -1,7 +1,7 @@
 -- Every accepted step keeps what holds of a task in every reached state.
-use Rattle.std.proofs.Common.{◌≡◌, ℕ, zero, suc, ◌+◌, ◌-◌, ◌*◌, ◌<◌, ◌≤◌, Bool, true, false, cond, ◌≢◌, ◌⊎◌, Some, None, Option, sym, refl, ap, ◌∙◌, inl, inr, arith}
+use Rattle.std.proofs.Common.{◌≡◌, ℕ, ◌+◌, ◌-◌, ◌≤◌, Bool, true, false, cond, Some, None, Option, refl, arith}
 use Rattle.group.specs.declared.meaning.Outcome.TheVariants.{Finish, Miss}
-use Rattle.group.specs.Task.{Task, terms_of, Class, Lawful, Position}
+use Rattle.group.specs.Task.{Task, terms_of, Lawful, Position}
 use Rattle.dispatcher.specs.declared.slot.Slot.{Slot}
 use Rattle.dispatcher.specs.declared.slot.Slot.TheVariants.{Empty, Pending, Halted}
 use Rattle.dispatcher.specs.declared.end.Way.{Way}

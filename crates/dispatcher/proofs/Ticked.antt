@@ -1,5 +1,5 @@
 -- What a tick leaves, from what it made of each task.
-use Rattle.std.proofs.Common.{◌≡◌, ℕ, ◌+◌, ◌<◌, Bool, true, cond, List, ◌++◌, length, get_or, drop, Some, None, Ok, Option, Result, sym, refl, ap, ◌∙◌, arith}
+use Rattle.std.proofs.Common.{◌≡◌, ℕ, ◌+◌, ◌<◌, Bool, true, List, ◌++◌, length, get_or, drop, None, Ok, Option, Result, sym, ap, ◌∙◌}
 use Rattle.denial.specs.declared.Denial.{Denial}
 use Rattle.denial.specs.Checks.{unless}
 use Rattle.group.specs.Task.{Task, at, place}
@@ -7,7 +7,7 @@ use Rattle.bounds.proofs.Checked.{both_clear, when_clear}
 use Rattle.dispatcher.specs.declared.end.End.{End}
 use Rattle.dispatcher.specs.declared.slot.Seat.{Seat}
 use Rattle.dispatcher.specs.Slots.{way_of}
-use Rattle.dispatcher.specs.State.{State, state_of, stands, standing, new_seat, is_running, runner, tick_one, tick_seat, settled_place, ticked}
+use Rattle.dispatcher.specs.State.{State, state_of, stands, standing, new_seat, is_running, runner, tick_one, settled_place, ticked}
 use Rattle.dispatcher.specs.Refusals.{unstarted_fault, tick_fault, kept_if}
 use Rattle.dispatcher.specs.Records.{ends_upto, tick_ends, tick_answer, tick_state, Listed}
 use Rattle.dispatcher.specs.Passing.{Passed}

@@ -1,7 +1,6 @@
 -- A tick, task by task. Assumes nothing.
 use Rattle.std.specs.Prelude.{◌≡◌, ℕ, ◌<◌, ◌≤◌, Bool, List, [], ◌∷◌, length, get_or, Some, None, Option, slice_index_or, slice_set}
 use Rattle.group.specs.Task.{Task, at, place}
-use Rattle.dispatcher.specs.declared.end.End.{End}
 use Rattle.dispatcher.specs.declared.slot.Seat.{Seat}
 use Rattle.dispatcher.specs.Slots.{way_of}
 use Rattle.dispatcher.specs.State.{new_seat, is_running, tick_seat, settled_place}

@@ -1,5 +1,7 @@
 // The dispatcher: it starts over a group of work in which no two tasks share a rank and every class that must have a bound has
 // one, and runs its jobs by rank.
+#![tactic(auto)]
+
 mod board;
 mod calls;
 mod checks;

@@ -1,5 +1,5 @@
 -- The start of a plan's tasks.
-use Rattle.std.proofs.Common.{◌≡◌, ℕ, ◌+◌, min, false, List, ◌++◌, map, length, Some, None, Option, Result, refl, ap, ◌∙◌, arith}
+use Rattle.std.proofs.Common.{◌≡◌, ℕ, min, false, List, ◌++◌, map, length, Some, None, Option, Result, refl, ap, ◌∙◌, arith}
 use Rattle.std.specs.Result.{result_err}
 use Rattle.std.specs.Option.{option_or}
 use Rattle.std.proofs.lemmas.List.{length-take, length-append, length-map, drop_all, append-nil}

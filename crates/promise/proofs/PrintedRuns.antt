@@ -1,18 +1,16 @@
 -- The run of the printed plan is a trace, by computation.
-use Rattle.std.proofs.Common.{◌≡◌, ℕ, zero, suc, ◌+◌, ◌<◌, ◌≤◌, List, [], ◌∷◌, length, get_or, refl, arith}
+use Rattle.std.proofs.Common.{ℕ, zero, suc, ◌+◌, ◌<◌, ◌≤◌, get_or, refl, arith}
 use Rattle.group.specs.Task.{Lawful, Position, at, place}
 use Rattle.plate.specs.Plans.{SoundCounted}
 use Rattle.kinds.specs.CountedLaws.{lawful}
 use Rattle.find.specs.First.{first, first_pair}
 use Rattle.bounds.specs.Bound.{bound}
 use Rattle.choose.specs.Foremost.{foremost}
-use Rattle.dispatcher.specs.declared.end.Way.TheVariants.{Finished, Late}
-use Rattle.dispatcher.specs.declared.end.End.{End}
 use Rattle.dispatcher.specs.Records.{ends_upto}
 use Rattle.dispatcher.proofs.Ends.{recorded_as}
 use Rattle.promise.specs.Trace.{Trace}
 use Rattle.promise.specs.Promise.{SoundGroup}
-use Rattle.promise.specs.PrintedRun.{first_row, second_row, printed, firsts, blanks, one_end, calls, PrintedRun}
+use Rattle.promise.specs.PrintedRun.{first_row, second_row, printed, firsts, calls, PrintedRun}
 
 first_sound : SoundCounted first_row
 first_sound = record {

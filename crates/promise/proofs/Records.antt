@@ -1,15 +1,15 @@
 -- What the records of a tick tell: each is of a job that ended so, and each job that ended has one, whatever their order.
-use Rattle.std.proofs.Common.{◌≡◌, ℕ, zero, suc, ◌+◌, ◌-◌, ◌<◌, ◌≤◌, Bool, true, false, cond, eqb, ◌≢◌, ◌⊎◌, List, [], ◌∷◌, ◌++◌, Some, None, Option, sym, refl, ◌∙◌, subst, inl, inr, arith}
+use Rattle.std.proofs.Common.{◌≡◌, ℕ, zero, suc, ◌+◌, ◌<◌, ◌≤◌, Bool, true, false, cond, eqb, ◌≢◌, ◌⊎◌, List, [], ◌∷◌, ◌++◌, Some, None, Option, sym, refl, ◌∙◌, subst, inl, inr, arith}
 use Rattle.std.specs.List.Sorted.{IsPermutation}
 use Rattle.std.specs.List.{AllByRecursion}
 use Rattle.std.proofs.ByRecursion.{All-append, all_shuffled}
 use Rattle.std.proofs.lemmas.List.Sorted.{IsPermutation-sym}
 use Rattle.std.proofs.lemmas.Bool.{eqb-false}
-use Rattle.group.specs.Task.{Task, at}
+use Rattle.group.specs.Task.{Task}
 use Rattle.dispatcher.specs.declared.end.Way.{Way}
 use Rattle.dispatcher.specs.declared.end.End.{End}
-use Rattle.dispatcher.specs.Slots.{way_of, class_of, age_of, end_record}
-use Rattle.dispatcher.specs.State.{State, slot_of, is_running}
+use Rattle.dispatcher.specs.Slots.{class_of, age_of, end_record}
+use Rattle.dispatcher.specs.State.{State, slot_of}
 use Rattle.dispatcher.specs.Records.{ends_at, ends_upto}
 use Rattle.promise.specs.Reading.{told}
 use Rattle.dispatcher.proofs.Ends.{way_at}

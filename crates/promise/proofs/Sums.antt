@@ -1,5 +1,5 @@
 -- Sums over the numbers below n, tests, and the rounding up.
-use Rattle.std.proofs.Common.{◌≡◌, ℕ, zero, suc, ◌+◌, ◌-◌, ◌*◌, ◌<◌, ◌≤◌, Bool, true, false, cond, eqb, leb, ◌⊎◌, List, [], ◌∷◌, get_or, refl, inl, inr, not-suc-le-zero, le-div_iff_mul-le, arith}
+use Rattle.std.proofs.Common.{◌≡◌, ℕ, zero, suc, ◌+◌, ◌*◌, ◌<◌, ◌≤◌, Bool, true, false, cond, eqb, leb, ◌⊎◌, List, [], ◌∷◌, get_or, refl, inl, inr, not-suc-le-zero, le-div_iff_mul-le, arith}
 use Rattle.group.specs.declared.meaning.Terms.{Terms}
 use Rattle.group.specs.Task.{Task, no_terms, terms_of}
 use Rattle.bounds.specs.Bound.{sum, largest, jobs}

@@ -1,5 +1,5 @@
 -- One task in a window of time that began at `from`: how many of its jobs were released since, and what they may have used.
-use Rattle.std.proofs.Common.{◌≡◌, ℕ, suc, ◌+◌, ◌-◌, ◌*◌, ◌<◌, ◌≤◌, min, Bool, true, false, cond, ◌⊎◌, List, [], ◌∷◌, length, Some, None, Option, refl, ap, inl, inr, arith}
+use Rattle.std.proofs.Common.{◌≡◌, ℕ, suc, ◌+◌, ◌-◌, ◌*◌, ◌<◌, ◌≤◌, min, Bool, true, false, cond, ◌⊎◌, List, [], ◌∷◌, length, refl, ap, inl, inr, arith}
 use Rattle.group.specs.declared.meaning.Outcome.{Outcome}
 use Rattle.group.specs.declared.meaning.Outcome.TheVariants.{Finish, Miss}
 use Rattle.group.specs.Task.{Task, terms_of, after, along, Lawful, Position}
@@ -7,8 +7,8 @@ use Rattle.dispatcher.specs.declared.slot.Slot.{Slot}
 use Rattle.dispatcher.specs.declared.slot.Slot.TheVariants.{Empty, Pending, Halted}
 use Rattle.dispatcher.specs.declared.end.Way.{Way}
 use Rattle.dispatcher.specs.declared.end.Way.TheVariants.{Finished, Cut, Late}
-use Rattle.dispatcher.specs.State.{Standing, stands}
-use Rattle.dispatcher.specs.Sound.{Job, SlotSound, Sound, ready_at, ready_of}
+use Rattle.dispatcher.specs.State.{Standing}
+use Rattle.dispatcher.specs.Sound.{Job, SlotSound, Sound, ready_at}
 use Rattle.dispatcher.proofs.Sounds.{IsHalted, released, resumed}
 use Rattle.promise.specs.Window.{busy, weight, Enough}
 use Rattle.dispatcher.proofs.Fates.{Fate, judged, fate, fated, vacated, Judged, judged_is}

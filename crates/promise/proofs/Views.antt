@@ -1,20 +1,16 @@
 -- The dispatcher's lists, task by task: each accepted step of the state is a step of every task's own.
-use Rattle.std.proofs.Common.{◌≡◌, ℕ, zero, suc, ◌-◌, ◌<◌, ◌≤◌, Bool, true, false, cond, eqb, List, [], ◌∷◌, length, get_or, set, Option, refl, ap, ◌∙◌, subst, arith}
+use Rattle.std.proofs.Common.{◌≡◌, ℕ, ◌<◌, Bool, true, false, cond, eqb, List, length, get_or, set, Option, refl, ◌∙◌, subst, arith}
 use Rattle.std.proofs.lemmas.List.{get_or-set_same, get_or-set_other, length-set, length-map}
 use Rattle.std.proofs.lemmas.List.FromFn.{get_or-map-range_with_len, length-range_with_len}
 use Rattle.std.proofs.lemmas.Bool.{eqb-false}
-use Rattle.group.specs.Task.{Task, Lawful, at, place}
-use Rattle.dispatcher.specs.declared.slot.Slot.{Slot}
-use Rattle.dispatcher.specs.declared.slot.Slot.TheVariants.{Empty, Pending, Halted}
-use Rattle.dispatcher.specs.Slots.{is_halted}
+use Rattle.group.specs.Task.{Task, Lawful, at}
 use Rattle.dispatcher.specs.State as state
 use Rattle.dispatcher.specs.State.{State, Standing, stands, new_seat, seated, standing, slot_of, is_running, release_one, resume_one, tick_one, ticked}
 use Rattle.dispatcher.proofs.Fates.{fate, fated, tick_is_fated}
-use Rattle.dispatcher.specs.Sound.{SlotSound, Sound, ready_of}
-use Rattle.dispatcher.proofs.Sounds.{IsHalted, halted_is, not_halted_is, release_is, released, resume_is, resumed}
-use Rattle.promise.proofs.Window.{Flow, Same, next, Free, AllSound, clash, eqb-true}
+use Rattle.dispatcher.proofs.Sounds.{not_halted_is, release_is, released, resume_is, resumed}
+use Rattle.promise.proofs.Window.{Flow, Same, next, Free, AllSound, eqb-true}
 use Rattle.promise.proofs.Window.Move.{release, tick, resume}
-use Rattle.dispatcher.proofs.Faults.{Takes, takes_from, Releases, Resumes}
+use Rattle.dispatcher.proofs.Faults.{takes_from, Releases, Resumes}
 
 -- where each task stands
 abbrev pub flow : State → Flow

@@ -1,5 +1,5 @@
 -- A run that can be looked at: a trace of the printed plan, and what it reads. So the promise is not about nothing. Assumes nothing.
-use Rattle.std.specs.Prelude.{◌≡◌, ℕ, Bool, true, false, List, [], ◌∷◌, replicate, Some, None, Ok, Err, Option}
+use Rattle.std.specs.Prelude.{◌≡◌, ℕ, true, false, List, [], ◌∷◌, replicate, Some, Ok, Err}
 use Rattle.denial.specs.declared.Rule.TheVariants.{NotStarted, TooSoon}
 use Rattle.denial.specs.Numbers.{denied}
 use Rattle.group.specs.Task.{Task}
@@ -11,7 +11,7 @@ use Rattle.dispatcher.specs.declared.end.End.{End}
 use Rattle.dispatcher.specs.declared.view.View.TheVariants.{Pending}
 use Rattle.promise.specs.Trace.{Call, Trace}
 use Rattle.promise.specs.Trace.Call.{start, release, tick, ask_clock, ask_slot, ask_bound, ask_next, ask_expiry}
-use Rattle.promise.specs.Reading.{Ending, reading}
+use Rattle.promise.specs.Reading.{reading}
 use Rattle.promise.specs.Promise.{SoundGroup}
 
 -- gap 4, budget 2, one miss tolerated, ranks 10 and 40

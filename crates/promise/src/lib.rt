@@ -1,4 +1,6 @@
 // The promise over whole runs: what every succession of calls on a new dispatcher keeps, and the theorems that it stands on.
+#![tactic(auto)]
+
 ghost use Rattle.std.specs.Prelude.{◌≡◌};
 ghost use Rattle.choose.specs.Foremost.{ForemostFound};
 ghost use Rattle.promise.specs.OwnBudget.{OwnBudgetFails};

@@ -1,4 +1,6 @@
 // Prints the sheet of the plate on standard input: a line for each class with its bound, and whether the plan may start.
+#![tactic(auto)]
+
 use anyhow::anyhow;
 use printed::print_sheet;
 use std::io::{Read, Write};

@@ -1,8 +1,7 @@
-use Rattle.std.proofs.Common.{◌≡◌, ◌++◌, length, drop, Some, None, Ok, Err, Option, Result, sym, refl, ap, ◌∙◌, subst}
+use Rattle.std.proofs.Common.{◌≡◌, length, drop, Some, None, Err, Option, Result, sym, ap, ◌∙◌}
 use Rattle.std.specs.Option.{option_or}
 use Rattle.denial.specs.declared.Denial.{Denial}
-use Rattle.denial.specs.Checks.{unless}
-use Rattle.admission.specs.Start.{early_fault, plan_fault, start_fault, scratch_after, StartLaw}
+use Rattle.admission.specs.Start.{early_fault, plan_fault, start_fault, scratch_after}
 use Rattle.admission.proofs.Marks.{marks_held}
 use Rattle.admission.proofs.Verdict.{start_says, early_passed, accepted, refused, answer}
 use Rattle.admission.proofs.admit.Goals as goal

@@ -1,6 +1,6 @@
-use Rattle.std.proofs.Common.{◌≡◌, None, Ok, sym, refl, ap, ◌∙◌}
+use Rattle.std.proofs.Common.{◌≡◌, None, Ok, sym, ap, ◌∙◌}
 use Rattle.denial.specs.Checks.{unless}
-use Rattle.bounds.specs.Bound.{bound, class_fault, SaysBound}
+use Rattle.bounds.specs.Bound.{bound, class_fault}
 use Rattle.bounds.proofs.Checked.{clear, class_clear}
 use Rattle.bounds.proofs.Least.{bound_says}
 use Rattle.bounds.proofs.bound.Goals as goal

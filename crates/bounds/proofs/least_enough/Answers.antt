@@ -1,6 +1,5 @@
-use Rattle.std.proofs.Common.{◌≡◌, ◌+◌, ◌<◌, ◌≤◌, Some, None, sym, refl, ap, ◌∙◌, arith}
+use Rattle.std.proofs.Common.{◌+◌, Some, ap, ◌∙◌, arith}
 use Rattle.group.specs.Task.{at}
-use Rattle.bounds.specs.Bound.{workload, largest, bound}
 use Rattle.bounds.proofs.Judged.{tells, own_low, own_high, worked}
 use Rattle.bounds.proofs.Least.{short_own, short_on, bound_found, bound_none}
 use Rattle.bounds.proofs.least_enough.Goals as goal

@@ -1,5 +1,4 @@
 use Rattle.std.proofs.Common.{ℕ, ◌-◌, ◌<◌, ◌≤◌}
-use Rattle.group.specs.Task.{at}
 use Rattle.bounds.specs.Bound.{workload}
 use Rattle.bounds.proofs.least_enough.Given as goal
 

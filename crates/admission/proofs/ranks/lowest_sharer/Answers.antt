@@ -1,10 +1,8 @@
-use Rattle.std.proofs.Common.{◌≡◌, ◌<◌, ◌≤◌, length, get_or, take, sym, refl, ap, ◌∙◌, arith}
+use Rattle.std.proofs.Common.{◌<◌, ◌≤◌, length, get_or, ap, ◌∙◌, arith}
 use Rattle.std.proofs.lemmas.List.{take_all}
-use Rattle.group.specs.Task.{at, no_terms}
+use Rattle.group.specs.Task.{at}
 use Rattle.bounds.proofs.Grows.{terms_next}
-use Rattle.admission.specs.Start.{uses}
-use Rattle.admission.specs.Ranks.{LowestSharer}
-use Rattle.admission.proofs.Sharers.{LowestSoFar, Marks, lowest_none, uses_own, mark_read, lowest_more, lowest_all}
+use Rattle.admission.proofs.Sharers.{lowest_none, mark_read, lowest_more, lowest_all}
 use Rattle.admission.proofs.ranks.lowest_sharer.Goals as goal
 
 pub loop-i-init : goal.loop-i-init

@@ -1,7 +1,7 @@
-use Rattle.std.proofs.Common.{◌≡◌, ◌≤◌, ◌++◌, length, take, drop, replicate, sym, refl, ap, ◌∙◌, arith}
+use Rattle.std.proofs.Common.{◌≡◌, ◌≤◌, ◌++◌, length, drop, replicate, ap, ◌∙◌, arith}
 use Rattle.std.proofs.lemmas.List.{length-take-le, drop_at}
 use Rattle.admission.specs.Start.{marks}
-use Rattle.admission.proofs.Marks.{MarkedBelow, below_none, below_more, below_all}
+use Rattle.admission.proofs.Marks.{below_none, below_more, below_all}
 use Rattle.admission.proofs.ranks.mark_ranks.Goals as goal
 
 pub loop-task-init : goal.loop-task-init

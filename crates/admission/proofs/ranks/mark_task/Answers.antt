@@ -1,9 +1,8 @@
-use Rattle.std.proofs.Common.{◌≡◌, ◌+◌, ◌<◌, ◌≤◌, length, take, sym, ap, ◌∙◌, arith}
+use Rattle.std.proofs.Common.{◌+◌, ◌<◌, ◌≤◌, length, sym, ap, ◌∙◌, arith}
 use Rattle.std.proofs.lemmas.List.{take_all}
 use Rattle.group.specs.Task.{at}
 use Rattle.bounds.proofs.Grows.{terms_next}
-use Rattle.admission.specs.Ranks.{MarkedBy}
-use Rattle.admission.proofs.Marks.{marked_more, marked_none}
+use Rattle.admission.proofs.Marks.{marked_more}
 use Rattle.admission.proofs.ranks.mark_task.Goals as goal
 
 pub loop-i-preserved : goal.loop-i-preserved

@@ -1,7 +1,6 @@
-use Rattle.std.proofs.Common.{◌≡◌, length, sym, ap, ◌∙◌, arith}
+use Rattle.std.proofs.Common.{◌≡◌, length, arith}
 use Rattle.admission.specs.Start.{sharing}
-use Rattle.admission.specs.Ranks.{better}
-use Rattle.admission.proofs.Pairs.{LeastPair, least_none, least_more, least_all}
+use Rattle.admission.proofs.Pairs.{least_none, least_more, least_all}
 use Rattle.admission.proofs.ranks.shared_pair.Goals as goal
 
 pub loop-task-init : goal.loop-task-init

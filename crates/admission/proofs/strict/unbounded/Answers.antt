@@ -1,4 +1,4 @@
-use Rattle.std.proofs.Common.{◌≡◌, ◌<◌, length, Some, None, sym, ap, ◌∙◌, arith}
+use Rattle.std.proofs.Common.{◌≡◌, ◌<◌, length, Some, ap, ◌∙◌, arith}
 use Rattle.denial.specs.declared.Rule.TheVariants.{Unbounded}
 use Rattle.denial.specs.Numbers.{denied}
 use Rattle.admission.proofs.Lacking.{none_lacks, none_more, first_lacking, no_lacking}

@@ -1,10 +1,10 @@
-use Rattle.std.proofs.Common.{◌≡◌, ◌+◌, ◌<◌, ◌≤◌, true, ◌++◌, length, get_or, drop, set, sym, refl, ap, ◌∙◌, arith}
+use Rattle.std.proofs.Common.{◌≡◌, ◌+◌, ◌<◌, true, ◌++◌, length, get_or, drop, set, sym, refl, ap, ◌∙◌, arith}
 use Rattle.std.proofs.lemmas.List.{length-append}
 use Rattle.group.specs.Task.{at, place}
 use Rattle.dispatcher.specs.Slots.{way_of}
-use Rattle.dispatcher.specs.State.{state_of, new_seat, is_running, tick_seat, settled_place}
-use Rattle.dispatcher.specs.Records.{ends_at, ends_upto}
-use Rattle.dispatcher.specs.Passing.{listed, noted}
+use Rattle.dispatcher.specs.State.{state_of, new_seat, tick_seat, settled_place}
+use Rattle.dispatcher.specs.Records.{ends_upto}
+use Rattle.dispatcher.specs.Passing.{listed}
 use Rattle.dispatcher.proofs.Ends.{ends_none, ends_more}
 use Rattle.dispatcher.proofs.Passes.{passed_none, passed_more, noted_more, end_at, end_fits}
 use Rattle.dispatcher.proofs.passing.pass_all.Goals as goal

@@ -1,4 +1,4 @@
-use Rattle.std.proofs.Common.{◌≡◌, set, sym, refl, ap, ◌∙◌}
+use Rattle.std.proofs.Common.{set, sym, refl, ap, ◌∙◌}
 use Rattle.std.proofs.lemmas.List.{set-get_or}
 use Rattle.group.specs.Task.{at, place}
 use Rattle.dispatcher.specs.State.{settled_place}

@@ -1,7 +1,7 @@
-use Rattle.std.proofs.Common.{◌≡◌, ◌<◌, min, length, get_or, sym, ap, ◌∙◌, arith}
+use Rattle.std.proofs.Common.{◌≡◌, ◌<◌, min, length, get_or, arith}
 use Rattle.group.specs.Task.{at}
 use Rattle.dispatcher.specs.State.{new_seat}
-use Rattle.dispatcher.specs.Keys.{expiry_key, KeysOf}
+use Rattle.dispatcher.specs.Keys.{expiry_key}
 use Rattle.dispatcher.proofs.Chooses.{keys_none, keys_more, keys_all}
 use Rattle.dispatcher.proofs.board.Dispatcher.all_left.Goals as goal
 

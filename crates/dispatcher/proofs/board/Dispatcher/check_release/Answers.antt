@@ -2,7 +2,6 @@ use Rattle.std.proofs.Common.{◌≡◌, length, None, sym, ap, ◌∙◌}
 use Rattle.bounds.proofs.Checked.{clear}
 use Rattle.group.specs.Task.{at}
 use Rattle.denial.specs.Checks.{unless}
-use Rattle.dispatcher.specs.State.{new_seat}
 use Rattle.dispatcher.specs.Refusals.{unstarted_fault, no_task_fault, seat_fault}
 use Rattle.dispatcher.proofs.Released.{release_checked}
 use Rattle.dispatcher.proofs.board.Dispatcher.check_release.Goals as goal

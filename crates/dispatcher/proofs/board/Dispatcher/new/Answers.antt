@@ -1,4 +1,3 @@
-use Rattle.std.proofs.Common.{refl}
 use Rattle.dispatcher.proofs.NewSeats.{new_steady}
 use Rattle.dispatcher.proofs.board.Dispatcher.new.Goals as goal
 

@@ -1,4 +1,4 @@
-use Rattle.std.proofs.Common.{◌≡◌, ℕ, ◌<◌, ◌≤◌, Bool, true, false, cond, length, get_or, sym, ap, ◌∙◌, arith}
+use Rattle.std.proofs.Common.{◌≡◌, ◌<◌, ◌≤◌, Bool, true, false, cond, length, ap, ◌∙◌, arith}
 use Rattle.bounds.proofs.Grows.{sum_more}
 use Rattle.dispatcher.specs.Slots.{is_pending}
 use Rattle.dispatcher.specs.State.{state_of, slot_of}

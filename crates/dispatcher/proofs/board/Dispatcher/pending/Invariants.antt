@@ -1,4 +1,4 @@
-use Rattle.std.proofs.Common.{◌≡◌, ◌≤◌, cond, get_or}
+use Rattle.std.proofs.Common.{◌≡◌, ◌≤◌, cond}
 use Rattle.bounds.specs.Bound.{sum}
 use Rattle.dispatcher.specs.Slots.{is_pending}
 use Rattle.dispatcher.specs.State.{state_of, slot_of}

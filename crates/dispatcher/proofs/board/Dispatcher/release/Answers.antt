@@ -1,6 +1,5 @@
 use Rattle.std.proofs.Common.{◌≡◌, ◌<◌, length, get_or, set, None, sym, refl, ap, ◌∙◌, arith}
 use Rattle.bounds.proofs.Checked.{clear}
-use Rattle.group.specs.Task.{at, place}
 use Rattle.dispatcher.specs.State.{state_of, released, new_seat, release_seat}
 use Rattle.dispatcher.specs.Refusals.{release_fault, kept_if}
 use Rattle.dispatcher.proofs.Released.{release_known, release_left}

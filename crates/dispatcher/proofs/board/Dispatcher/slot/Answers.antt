@@ -1,4 +1,4 @@
-use Rattle.std.proofs.Common.{◌≡◌, None, Ok, sym, refl, ap, ◌∙◌}
+use Rattle.std.proofs.Common.{◌≡◌, None, Ok, sym, ap, ◌∙◌}
 use Rattle.denial.specs.Checks.{unless}
 use Rattle.bounds.specs.Bound.{task_fault}
 use Rattle.bounds.proofs.Checked.{clear, task_clear}

@@ -1,5 +1,4 @@
-use Rattle.std.proofs.Common.{◌≡◌, ◌+◌, ◌++◌, length, drop, Some, None, Option, sym, refl, ap, ◌∙◌}
-use Rattle.denial.specs.declared.Denial.{Denial}
+use Rattle.std.proofs.Common.{◌≡◌, ◌+◌, ◌++◌, length, drop, Some, None, sym, refl, ap, ◌∙◌}
 use Rattle.denial.specs.Checks.{unless}
 use Rattle.bounds.proofs.Checked.{clear}
 use Rattle.dispatcher.specs.State.{state_of, runner, ticked}
