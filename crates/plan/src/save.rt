@@ -1,8 +1,9 @@
 // Saving two tables as a plate.
-ghost use Rattle.std.specs.Prelude.{◌≡◌, ℕ, ◌+◌, ◌^◌, ◌<◌, ◌≤◌, List, [], map, length, Ok, slice_index_or};
+ghost use Rattle.std.specs.Prelude.{◌≡◌, ℕ, ◌+◌, ◌^◌, ◌<◌, ◌≤◌, List, [], map, length, take, Ok, slice_index_or};
 ghost use Rattle.plate.specs.Plans.{unless, counted_bytes, framed_bytes, encode, decode, SoundCounted, SoundFramed};
 ghost use Rattle.plate.specs.Writing.{put_at, left, Then};
 ghost use Rattle.kinds.specs.Listed.{counted_rows, framed_rows};
+ghost use Rattle.kinds.specs.Rows.{GoodCounted, GoodFramed};
 ghost use Rattle.plan.specs.Loads.{plan_of};
 ghost use Rattle.plan.specs.Saves.{save_refusal, save_fault, concat};
 ghost use Rattle.std.proofs.lemmas.List.{length-map};
@@ -10,7 +11,8 @@ ghost use Rattle.kinds.proofs.Listed.{counted_few, counted_sound, framed_few, fr
 ghost use Rattle.plan.specs.Saved.{bytes_short, counted_short, framed_short};
 
 use denial::{Denial, Rule};
-use kinds::{FrameTable, MissCountedTable};
+use kinds::{FrameRow, FrameTable, MissCountedRow, MissCountedTable};
+use plate::frame::Frame;
 use plate::writer::{write_frames, write_header, write_miss_counted};
 
 // Rows of either kind, by their bytes on a plate.
@@ -61,6 +63,24 @@ fn write_all<T: Rows>(rows: &T, out: &mut [u8], at: usize) -> usize
     end
 }
 
+// The ranks of a row's classes.
+fn row_ranks(row: &MissCountedRow) -> &[u8]
+    requires { GoodCounted row.now }
+    ensures { result.now ≡ take (row.now.misses + 1) row.now.ranks }
+{
+    let classes = usize::from(row.misses) + 1;
+    &row.ranks[0..classes]
+}
+
+// The frames of a row's cycle.
+fn row_frames(row: &FrameRow) -> &[Frame]
+    requires { GoodFramed row.now }
+    ensures { result.now ≡ take row.now.count row.now.frames }
+{
+    let count = usize::from(row.count);
+    &row.frames[0..count]
+}
+
 impl Rows for MissCountedTable {
     ghost bytes = { λ t. map counted_bytes (counted_rows t) };
 
@@ -74,15 +94,14 @@ impl Rows for MissCountedTable {
 
     fn row_size(&self, i: u16) -> usize {
         match self.row(i) {
-            Some(row) => 5 + usize::from(row.misses),
+            Some(row) => 4 + row_ranks(row).len(),
             None => 0,
         }
     }
 
     fn write_row(&self, i: u16, out: &mut [u8], at: usize) {
         if let Some(row) = self.row(i) {
-            let n = usize::from(row.misses) + 1;
-            let _ = write_miss_counted(out, at, row.gap, row.budget, &row.ranks[0..n]);
+            let _ = write_miss_counted(out, at, row.gap, row.budget, row_ranks(row));
         }
     }
 }
@@ -100,15 +119,14 @@ impl Rows for FrameTable {
 
     fn row_size(&self, i: u16) -> usize {
         match self.row(i) {
-            Some(row) => 2 + 3 * usize::from(row.count),
+            Some(row) => 2 + 3 * row_frames(row).len(),
             None => 0,
         }
     }
 
     fn write_row(&self, i: u16, out: &mut [u8], at: usize) {
         if let Some(row) = self.row(i) {
-            let n = usize::from(row.count);
-            let _ = write_frames(out, at, row.gap, &row.frames[0..n]);
+            let _ = write_frames(out, at, row.gap, row_frames(row));
         }
     }
 }

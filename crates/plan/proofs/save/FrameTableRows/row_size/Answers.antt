@@ -1,5 +1,4 @@
-use Rattle.std.proofs.Common.{take, arith}
-use Rattle.std.proofs.lemmas.List.{length-take-le}
+use Rattle.std.proofs.Common.{length, take, ap, arith}
 use Rattle.plate.specs.Plans.{framed_bytes}
 use Rattle.plate.proofs.Frameds.{joined_length}
 use Rattle.kinds.specs.Listed.{framed_rows}
@@ -10,8 +9,7 @@ pub returns-in-Some : goal.returns-in-Some
 returns-in-Some c =
     let row = c.in-Some.ensures.row in
     let is = bytes_at framed_bytes (framed_rows c.args.self.now) c.args.i _ row.here row.stands in
-    let good = row.keeps in
-    rw is (omega (arith, joined_length (take c.in-Some.row.now.count c.in-Some.row.now.frames), length-take-le c.in-Some.row.now.count c.in-Some.row.now.frames (omega arith)))
+    rw is (omega (arith, joined_length (take c.in-Some.row.now.count c.in-Some.row.now.frames), ap length c.row_frames.ensures))
 
 pub returns-in-None : goal.returns-in-None
 returns-in-None c =

@@ -1,5 +1,4 @@
 use Rattle.std.proofs.Common.{take, arith}
-use native.Mathlib.Nat.{sub-zero}
 use Rattle.std.proofs.lemmas.List.{length-map}
 use Rattle.plate.specs.Rows.{Framed}
 use Rattle.plate.specs.Plans.{framed_bytes}
@@ -15,7 +14,7 @@ returns-in-Some c =
     let is = bytes_at framed_bytes (framed_rows c.args.self.now) c.args.i said row.here row.stands in
     rw is
     (framed_written c.args.out.now _ c.args.at said c.write_frames.result row.keeps.sound (rw is at c.requires.room)
-    (simp (sub-zero, c.from-n.ensures) at c.write_frames.ensures.result) (simp (sub-zero, c.from-n.ensures) at c.write_frames.ensures.out))
+    (simp c.row_frames.ensures at c.write_frames.ensures.result) (simp c.row_frames.ensures at c.write_frames.ensures.out))
 
 pub returns-in_default : goal.returns-in_default
 returns-in_default c =

@@ -1,5 +1,4 @@
-use Rattle.std.proofs.Common.{◌+◌, arith}
-use Rattle.std.proofs.lemmas.List.{length-take-le}
+use Rattle.std.proofs.Common.{length, ap, arith}
 use Rattle.plate.specs.Plans.{counted_bytes}
 use Rattle.kinds.specs.Listed.{counted_rows}
 use Rattle.plan.specs.Saved.{bytes_at, bytes_past}
@@ -9,8 +8,7 @@ pub returns-in-Some : goal.returns-in-Some
 returns-in-Some c =
     let row = c.in-Some.ensures.row in
     let is = bytes_at counted_bytes (counted_rows c.args.self.now) c.args.i _ row.here row.stands in
-    let good = row.keeps in
-    rw is (omega (arith, length-take-le (c.in-Some.row.now.misses + 1) c.in-Some.row.now.ranks (omega arith)))
+    rw is (omega (arith, ap length c.row_ranks.ensures))
 
 pub returns-in-None : goal.returns-in-None
 returns-in-None c =

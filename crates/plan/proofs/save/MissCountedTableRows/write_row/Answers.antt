@@ -1,5 +1,4 @@
 use Rattle.std.proofs.Common.{◌+◌, take, arith}
-use native.Mathlib.Nat.{sub-zero}
 use Rattle.std.proofs.lemmas.List.{length-map}
 use Rattle.plate.specs.Rows.{Counted}
 use Rattle.plate.specs.Plans.{counted_bytes}
@@ -15,7 +14,7 @@ returns-in-Some c =
     let is = bytes_at counted_bytes (counted_rows c.args.self.now) c.args.i said row.here row.stands in
     rw is
     (counted_written c.args.out.now _ c.args.at said c.write_miss_counted.result row.keeps.sound (rw is at c.requires.room)
-    (simp (sub-zero, c.from-n.ensures) at c.write_miss_counted.ensures.result) (simp (sub-zero, c.from-n.ensures) at c.write_miss_counted.ensures.out))
+    (simp c.row_ranks.ensures at c.write_miss_counted.ensures.result) (simp c.row_ranks.ensures at c.write_miss_counted.ensures.out))
 
 pub returns-in_default : goal.returns-in_default
 returns-in_default c =
