@@ -14,9 +14,11 @@ import sys
 KIT = os.environ.get("RATTLE_KIT", "/opt/rattle")
 HEAD = re.compile(r"^(?P<indent> *)(?:(?:abbrev|unfoldable) +)?(?:pub +)?(?:(?P<kind>record|data|ruleset) +)?(?P<name>[^\s(){}:;,.«»]+) *(?=[({:])")
 TOKEN = re.compile(r"[^\s(){}\[\],.;:\"`⌜⌝«»]+")
-# Words at the head of an indented line that is no definition.
 # Names that would fall together with a word of the library or a variant of src/.
 CHOSEN = {"If-some": "WhenSome", "Miss-counted": "IsMissCounted"}
+# Names that the library has too, in modules that nothing here imports them from.
+OURS = {"count-le", "first-is", "or-none", "seen-is"}
+# Words at the head of an indented line that is no definition.
 NOT = {"use", "mod", "pub", "let", "in", "elim", "where", "module", "record", "data", "abbrev", "unfoldable", "unfolding", "--", "λ"}
 
 
@@ -67,7 +69,7 @@ def main(argv):
     for path in files(root, ".antt"):
         all_names.update(defined(path))
     ours = {n for n in all_names if re.search(r"[^\W\d_]-[^\W\d_]|\d-[^\W\d_]|[^\W\d_]-\d", n)}
-    both = ours & library_names()
+    both = (ours & library_names()) - OURS
     ours -= both
     if both:
         print("left, since the library has the name: " + ", ".join(sorted(both)))

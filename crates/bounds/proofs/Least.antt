@@ -3,7 +3,7 @@ use Rattle.std.proofs.Common.{◌≡◌, ℕ, zero, suc, ◌<◌, ◌≤◌, max
 use Rattle.std.specs.Option.{option_map}
 use Rattle.std.proofs.lemmas.Bool.{leb-true, le-leb, lt-leb, cases_lt, both_ways}
 use Rattle.find.specs.First.{first, Searched}
-use Rattle.find.proofs.Firsts.{first_says, first-is}
+use Rattle.find.proofs.Firsts.{first_says, first_is}
 use Rattle.group.specs.declared.meaning.Terms.{Terms}
 use Rattle.group.specs.Task.{Task, Class, at, terms_of}
 use Rattle.bounds.specs.Bound.{jobs, largest, request, workload, Bounded, LeastBound, Unbounded, bound, HigherSooner, SaysBound}
@@ -32,7 +32,7 @@ unfolding bound
 bound_found ts k c (suc j) low high enough short =
     let s : Searched (fits ts k c) (at ts k).gap (Some j) =
     (omega arith, le-leb (workload ts k c (suc j)) (suc j) enough, λ i h. lt-leb (workload ts k c (suc i)) (suc i) (short (suc i) (omega arith))) in
-    sym (ap (option_map suc) (first-is (fits ts k c) (at ts k).gap (Some j) s))
+    sym (ap (option_map suc) (first_is (fits ts k c) (at ts k).gap (Some j) s))
 bound_found ts k c zero low high enough short = absurd (omega arith)
 
 -- and if none up to the gap is, there is no bound
@@ -40,7 +40,7 @@ pub bound_none : (ts : List Task) (k c R : ℕ) → (at ts k).gap < R → ShortB
 unfolding bound
 bound_none ts k c R high short =
     let s : Searched (fits ts k c) (at ts k).gap None = λ i h. lt-leb (workload ts k c (suc i)) (suc i) (short (suc i) (omega arith)) in
-    sym (ap (option_map suc) (first-is (fits ts k c) (at ts k).gap None s))
+    sym (ap (option_map suc) (first_is (fits ts k c) (at ts k).gap None s))
 
 -- what the bound says of a class that there is
 pub bound_least : (ts : List Task) (k c : ℕ) → k < length ts → Class (at ts k) c → (R : ℕ) → bound ts k c ≡ Some R → LeastBound ts k c R

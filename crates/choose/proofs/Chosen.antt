@@ -50,9 +50,9 @@ best_more {K} ahead keys n (Some p) (Some k) e h = rw (add-one n) (on (ahead k p
 
 -- The law of the foremost ----------------------------------------------------------------------------------------------------
 
-not-true : (b : Bool) → (b ≡ true → ⊥) → b ≡ false
-not-true true h = absurd (h refl)
-not-true false h = refl
+not_true : (b : Bool) → (b ≡ true → ⊥) → b ≡ false
+not_true true h = absurd (h refl)
+not_true false h = refl
 
 pub foremost_found : (there : ℕ → Bool) (ahead : ℕ → ℕ → Bool) → Orders there ahead → (n : ℕ)
     → IsForemost there ahead n (foremost there ahead n) × IsLowest there ahead (foremost there ahead n)
@@ -64,7 +64,7 @@ foremost_found there ahead o (suc n) = on (foremost there ahead n) (foremost_fou
     order a b h = grind arith
 
     alone : ahead n n ≡ false
-    alone = not-true (ahead n n) (λ e. both_ways (ahead n n) (o.one_way n n e) e)
+    alone = not_true (ahead n n) (λ e. both_ways (ahead n n) (o.one_way n n e) e)
 
     newcomer : (r : ℕ) → r < n → there r ≡ true → ((j : ℕ) → j < n → there j ≡ true → ahead j r ≡ false) → ((j : ℕ) → j < r → there j ≡ true → ahead r j ≡ true) →
         there n ≡ true → (b : Bool) → ahead n r ≡ b →

@@ -68,5 +68,5 @@ module _ (ts : List Task) (clock : ℕ) (started : Bool) (places : List ℕ) (se
       (number_known k (both_clear (no_task_fault (length ts) k) _ a.1).0, seats_enough started (length ts) (when_clear _ _ a.0))
 
   -- the view of a task's slot
-  pub seen-is : (k : ℕ) → k < length ts → (slot : Slot) → slot ≡ (get_or seats k new_seat).slot → slot ≡ slot_of (state_of clock started places seats) k
-  seen-is k l slot e = e ∙ ap (λ x. x.seat.slot) (sym (standing_is k l))
+  pub seen_is : (k : ℕ) → k < length ts → (slot : Slot) → slot ≡ (get_or seats k new_seat).slot → slot ≡ slot_of (state_of clock started places seats) k
+  seen_is k l slot e = e ∙ ap (λ x. x.seat.slot) (sym (standing_is k l))

@@ -1,5 +1,5 @@
 -- A search answers what it says, and nothing else would be right.
-use Rattle.std.proofs.Common.{◌≡◌, ℕ, zero, suc, ◌<◌, Bool, true, false, cond, ◌⊎◌, Some, None, Option, sym, refl, ap, ◌∙◌, inl, inr, arith}
+use Rattle.std.proofs.Common.{◌≡◌, ℕ, zero, suc, ◌+◌, ◌<◌, Bool, true, false, cond, ◌⊎◌, Some, None, Option, sym, refl, ap, ◌∙◌, inl, inr, add-one, arith}
 use Rattle.std.specs.Option.{option_or, option_map}
 use Rattle.std.proofs.lemmas.Bool.{cases_order, both_ways}
 use Rattle.find.specs.First.{first, first_pair, Searched, SearchedPair}
@@ -19,8 +19,8 @@ first_says f (suc n) = step (first f n) (first_says f n) (f n) refl
     step None s false e = λ j h. elim (last_or_below j n h) [ inl q ↦ ap f q ∙ e | inr q ↦ s j q ]
 
 -- and only one answer is
-pub first-is : (f : ℕ → Bool) (n : ℕ) (o : Option ℕ) → Searched f n o → first f n ≡ o
-first-is f n o s = same (first f n) o (first_says f n) s
+pub first_is : (f : ℕ → Bool) (n : ℕ) (o : Option ℕ) → Searched f n o → first f n ≡ o
+first_is f n o s = same (first f n) o (first_says f n) s
   where
     apart : (i : ℕ) → f i ≡ true → f i ≡ false → ⊥
     apart i p q = both_ways (f i) q p
@@ -35,6 +35,22 @@ first-is f n o s = same (first f n) o (first_says f n) s
           | inr (inl l) ↦ absurd (apart i p.1 (q.2 i l))
           | inr (inr l) ↦ absurd (apart j q.1 (p.2 j l))
         ]
+
+-- where there is no index, none passes
+pub first_none : (f : ℕ → Bool) → first f 0 ≡ None
+unfolding first
+first_none f = refl
+
+-- one more index that does not pass
+pub first_more : (f : ℕ → Bool) (i : ℕ) → first f i ≡ None → f i ≡ false → first f (i + 1) ≡ None
+unfolding first
+first_more f i h e = rw (add-one i, h, e)
+
+-- an index that passes, after none that does
+pub first_found : (f : ℕ → Bool) (i n : ℕ) → first f i ≡ None → f i ≡ true → i < n → Some i ≡ first f n
+first_found f i n h e l =
+    let s : Searched f i None = rw h at (first_says f i) in
+    sym (first_is f n (Some i) (l, e, s))
 
 -- what a search for a pair answers, is so
 pub pair_says : (f : ℕ → ℕ → Bool) (m : ℕ) (limit : ℕ → ℕ) → SearchedPair f m limit (first_pair f m limit)
@@ -59,7 +75,7 @@ pair_is f m limit o s = same (first_pair f m limit) o (pair_says f m limit) s
     apart i j p q = both_ways (f i j) q p
 
     level : (i j k : ℕ) → Searched (f i) (limit i) (Some j) → Searched (f i) (limit i) (Some k) → j ≡ k
-    level i j k p q = let e : Some j ≡ Some k = sym (first-is (f i) (limit i) (Some j) p) ∙ first-is (f i) (limit i) (Some k) q in cc
+    level i j k p q = let e : Some j ≡ Some k = sym (first_is (f i) (limit i) (Some j) p) ∙ first_is (f i) (limit i) (Some k) q in cc
 
     same : (a b : Option (ℕ × ℕ)) → SearchedPair f m limit a → SearchedPair f m limit b → a ≡ b
     same None None p q = refl

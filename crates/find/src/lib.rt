@@ -1,4 +1,4 @@
-// Finding the first index that passes a test, once for every test: each search in the other crates is this one.
+// Finding the first index that passes a test, once for every test.
 #![tactic(auto)]
 
 ghost use Rattle.std.specs.Prelude.{◌≡◌, ℕ, ◌<◌, Bool, IfSome};

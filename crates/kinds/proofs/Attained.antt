@@ -12,7 +12,7 @@ use Rattle.kinds.specs.Demands.{Asked}
 use Rattle.kinds.specs.MissCounted.{counted_task, most, count_above}
 use Rattle.kinds.specs.Frames.{framed_task, frame_above}
 use Rattle.kinds.specs.Cover.{top}
-use Rattle.kinds.specs.Ranks.{count-le, low_ranks, class_terms}
+use Rattle.kinds.specs.Ranks.{count_le, low_ranks, class_terms}
 use Rattle.kinds.specs.CountedLaws.{moves, rising, lawful}
 use Rattle.kinds.specs.CycleLemmas.{within_low, within_high, is_within, wraps, turn, largest_of}
 use Rattle.kinds.specs.FramedLaws as frames
@@ -108,14 +108,14 @@ module _ (c : Counted) (ok : SoundCounted c) where
 
   pub counted_attained : Attained task
   counted_attained N p h =
-      elim (start count (count_above p c.ranks) (count-le p c.ranks)) [
+      elim (start count (count_above p c.ranks) (count_le p c.ranks)) [
         | inl e ↦
             let pos : Position task 1 = is_within count 1 (omega arith) ok.classes.0 in
             (1, replicate N Miss, pos, length-replicate N Miss, attained_at p N 1 h pos (none N (count_above p c.ranks) e))
         | inr l ↦
             let x = count - count_above p c.ranks + 1 in
             let pos : Position task x = is_within count x (omega arith) (omega arith) in
-            (x, replicate N Miss, pos, length-replicate N Miss, attained_at p N x h pos (from_top (count_above p c.ranks) N (count-le p c.ranks) l))
+            (x, replicate N Miss, pos, length-replicate N Miss, attained_at p N x h pos (from_top (count_above p c.ranks) N (count_le p c.ranks) l))
       ]
     where
       none : (N n : ℕ) → n ≡ 0 → {a : ℕ} → most count n N ≤ a

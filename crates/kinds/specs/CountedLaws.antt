@@ -13,7 +13,7 @@ use Rattle.kinds.specs.MissCounted.{counted_task, most, count_above}
 use Rattle.kinds.specs.CycleLemmas.{within_low, within_high, is_within, next_within}
 use Rattle.kinds.specs.Cover.{top, climb, window}
 use Rattle.kinds.specs.Most.{most_grows, most_wider, most_few}
-use Rattle.kinds.specs.Ranks.{Rising, count-le, count_falls, top_ranks, classes_length, class_terms, one_class}
+use Rattle.kinds.specs.Ranks.{Rising, count_le, count_falls, top_ranks, classes_length, class_terms, one_class}
 
 module _ (c : Counted) (ok : SoundCounted c) where
   abbrev task : Task
@@ -69,7 +69,7 @@ module _ (c : Counted) (ok : SoundCounted c) where
       let a : along task (above task p) x os ≤ along task (λ y. c.budget * top u y) x os =
       along_le task moves (above task p) (λ y. c.budget * top u y) (weigh p) x os pos in
       let b : along task (λ y. c.budget * top u y) x os ≡ c.budget * along task (top u) x os = along_scaled task c.budget (top u) x os in
-      let d : c.budget * along task (top u) x os ≤ c.budget * most k n (length os) = mul-le-mul_left c.budget (tops n x os (count-le p c.ranks) pos) in
+      let d : c.budget * along task (top u) x os ≤ c.budget * most k n (length os) = mul-le-mul_left c.budget (tops n x os (count_le p c.ranks) pos) in
       let e : min (length os) 4095 ≡ length os = omega arith in
       let f : c.budget * most k n (min (length os) 4095) ≡ c.budget * most k n (length os) = ap (λ N. c.budget * most k n N) e in
       omega arith
@@ -85,7 +85,7 @@ module _ (c : Counted) (ok : SoundCounted c) where
   capped : (N p : ℕ) → task.demand N p ≤ N * 4095
   capped N p =
       let n = count_above p c.ranks in
-      let a : most (length c.ranks) n (min N 4095) ≤ min N 4095 = most_few (length c.ranks) n (min N 4095) (count-le p c.ranks) in
+      let a : most (length c.ranks) n (min N 4095) ≤ min N 4095 = most_few (length c.ranks) n (min N 4095) (count_le p c.ranks) in
       let h : c.budget ≤ 4095 = omega (arith, ok.budget.1, ok.gap.1) in
       let b : c.budget * most (length c.ranks) n (min N 4095) ≤ 4095 * N = mul-le-mul h (omega arith) in
       omega (arith, mul_comm 4095 N)

@@ -18,7 +18,7 @@ use Rattle.kinds.specs.MissCounted.{counted_task, classes_of, count_above, most}
 use Rattle.kinds.specs.Rows.{GoodCounted, counted_classes, counted_of, counted_class, counted_next, counted_row_fault, counted_row_task}
 use Rattle.kinds.specs.CycleLemmas.{is_within}
 use Rattle.kinds.specs.Most.{most_few}
-use Rattle.kinds.specs.Ranks.{classes_length, class_terms, count-le}
+use Rattle.kinds.specs.Ranks.{classes_length, class_terms, count_le}
 use Rattle.kinds.specs.CountedLaws.{lawful}
 use Rattle.kinds.specs.Props.{good_counted_prop}
 use Rattle.kinds.specs.TablesLemmas.{Kind}
@@ -82,7 +82,7 @@ module _ (r : MissCountedRow) (k : GoodCounted r) where
       out j m h = grind arith
 
   pub above_few : (p : ℕ) → count_above p (take (r.misses + 1) r.ranks) ≤ r.misses + 1
-  above_few p = omega (arith, count-le p (take (r.misses + 1) r.ranks), ranks_count)
+  above_few p = omega (arith, count_le p (take (r.misses + 1) r.ranks), ranks_count)
 
   -- the demand by what the code has in hand
   pub demand_made : (p N J n q : ℕ) → J ≡ min N 4095 → n ≡ count_above p (take (r.misses + 1) r.ranks) → q ≡ most (r.misses + 1) n J →

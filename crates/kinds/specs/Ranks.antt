@@ -5,9 +5,9 @@ use Rattle.group.specs.declared.meaning.Terms.{Terms}
 use Rattle.group.specs.Task.{no_terms}
 use Rattle.kinds.specs.MissCounted.{count_above, classes_of}
 
-pub count-le : (p : ℕ) (rs : List ℕ) → count_above p rs ≤ length rs
-count-le p [] = omega arith
-count-le p (r ∷ rs) = let ih : count_above p rs ≤ length rs = count-le p rs in step p r (count_above p rs) (length rs) ih
+pub count_le : (p : ℕ) (rs : List ℕ) → count_above p rs ≤ length rs
+count_le p [] = omega arith
+count_le p (r ∷ rs) = let ih : count_above p rs ≤ length rs = count_le p rs in step p r (count_above p rs) (length rs) ih
   where
     step : (p r a b : ℕ) → a ≤ b → cond (nat_lt p r) 1 0 + a ≤ suc b
     step p r a b h = grind arith
@@ -77,7 +77,7 @@ first_least r (s ∷ rs) (suc j) h l =
 -- where the one at j is not above p, none up to j is
 pub low_ranks : (p : ℕ) (rs : List ℕ) (j : ℕ) → Rising rs → j < length rs → slice_index rs j ≤ p → j + 1 + count_above p rs ≤ length rs
 low_ranks p [] j h l g = absurd (not-suc-le-zero l)
-low_ranks p (r ∷ rs) zero h l g = let a : count_above p rs ≤ length rs = count-le p rs in step p r (count_above p rs) (length rs) g a
+low_ranks p (r ∷ rs) zero h l g = let a : count_above p rs ≤ length rs = count_le p rs in step p r (count_above p rs) (length rs) g a
   where
     step : (p r a b : ℕ) → r ≤ p → a ≤ b → 0 + 1 + (cond (nat_lt p r) 1 0 + a) ≤ suc b
     step p r a b h k = grind arith

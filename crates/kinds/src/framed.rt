@@ -128,7 +128,7 @@ impl Group for FrameTable {
         self.place(task)
     }
 
-    // The most that the jobs can ask for: where there is the task, some succession of them asks for all of it.
+    // The most that the jobs can ask for, counted up to 4,095: where there is the task, some succession of them asks for all of it.
     fn demand(&self, task: u16, jobs: u16, rank: u8) -> u32
         ensures value { result ≡ (at (framed_tasks self.now) task).demand jobs rank }
         ensures attained { task < length (framed_tasks self.now) → Asked (at (framed_tasks self.now) task) (min jobs 4095) rank result }

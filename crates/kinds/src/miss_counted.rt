@@ -127,7 +127,7 @@ impl Group for MissCountedTable {
         self.place(task)
     }
 
-    // The most that the jobs can ask for: where there is the task, some succession of them asks for all of it.
+    // The most that the jobs can ask for, counted up to 4,095: where there is the task, some succession of them asks for all of it.
     fn demand(&self, task: u16, jobs: u16, rank: u8) -> u32
         ensures value { result ≡ (at (counted_tasks self.now) task).demand jobs rank }
         ensures attained { task < length (counted_tasks self.now) → Asked (at (counted_tasks self.now) task) (min jobs 4095) rank result }

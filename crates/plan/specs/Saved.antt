@@ -14,7 +14,7 @@ use Rattle.plate.specs.Plans.{unless, counts_fault, header_bytes, SoundCounted, 
 use Rattle.plate.specs.Writing.{put_at, left, room_fault}
 use Rattle.plate.proofs.Counteds
 use Rattle.plate.proofs.Frameds
-use Rattle.plate.proofs.Nones.{or-none, when_none}
+use Rattle.plate.proofs.Nones.{or_none, when_none}
 use Rattle.plate.proofs.Puts.{put_put}
 use Rattle.plate.proofs.Trips.{counts_fit}
 use Rattle.plan.specs.Saves.{save_refusal, save_fault, concat}
@@ -80,7 +80,7 @@ plan_fault cs fs m n size len em en es = rw (em, en, es)
 -- what it says that nothing is refused
 pub plan_fits : (rows size len : ℕ) → save_refusal rows size len ≡ None → (1 ≤ rows) × (size ≤ len)
 plan_fits rows size len e =
-    let a = or-none (when (rows == 0) (denied RowCounts 255 4)) (when (nat_lt len size) (denied Room size 0)) e in
+    let a = or_none (when (rows == 0) (denied RowCounts 255 4)) (when (nat_lt len size) (denied Room size 0)) e in
     let z = eqb-false rows 0 (when_none _ _ a.0) in
     (omega arith, ltb-false len size (when_none _ _ a.1))
 

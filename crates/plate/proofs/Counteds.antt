@@ -9,7 +9,7 @@ use Rattle.plate.specs.Rows.{Counted, short_fault, ranks_count, rank_bytes, coun
 use Rattle.plate.specs.Plans.{Within, Bytes, SoundCounted, counted_bytes}
 use Rattle.plate.proofs.Fields.{field_within, field_high, field_middle}
 use Rattle.plate.proofs.Halves.{high_half, low_half, by_sixteen, by_byte}
-use Rattle.plate.proofs.Nones.{ranged, in_range, or-none, when_none, mapped_none, first_all, all_first}
+use Rattle.plate.proofs.Nones.{ranged, in_range, or_none, when_none, mapped_none, first_all, all_first}
 
 -- the fixed fields of a row from byte k on
 pub record Fixed (bs : List ℕ) (k : ℕ) : Type 0 where
@@ -54,9 +54,9 @@ pub record Clean (g b : ℕ) (rs : List ℕ) : Type 0 where
 
 pub clean : (row p gap budget : ℕ) (ranks : List ℕ) → counted_fault row p gap budget ranks ≡ None → Clean gap budget ranks
 clean row p gap budget ranks e =
-    let a = or-none _ _ e in
-    let b = or-none _ _ a.1 in
-    let c = or-none _ _ b.1 in
+    let a = or_none _ _ e in
+    let b = or_none _ _ a.1 in
+    let c = or_none _ _ b.1 in
     record {
       gap = ranged gap 4095 (when_none _ _ b.0);
       budget = ranged budget gap (when_none _ _ c.0);
@@ -117,9 +117,9 @@ parts : (bs : List ℕ) (p row : ℕ) → counted_denial bs p row ≡ None
     × (counted_fault row p (field bs p 12) (field bs (p + 12) 12) (rank_bytes bs p) ≡ None)
 unfolding counted_denial
 parts bs p row e =
-    let a = or-none (short_fault bs row (p / 8 + 4)) _ e in
-    let b = or-none (short_fault bs row ((p + 32) / 8 + ranks_count bs p)) _ a.1 in
-    let c = or-none (spare_fault row (p + 27) (field bs (p + 27) 5)) _ b.1 in (
+    let a = or_none (short_fault bs row (p / 8 + 4)) _ e in
+    let b = or_none (short_fault bs row ((p + 32) / 8 + ranks_count bs p)) _ a.1 in
+    let c = or_none (spare_fault row (p + 27) (field bs (p + 27) 5)) _ b.1 in (
       ltb-false (length bs) ((p + 32) / 8 + ranks_count bs p) (when_none _ _ b.0),
       (let z = ltb-false 0 (field bs (p + 27) 5) (when_none _ _ c.0) in omega (arith, z)),
       c.1,

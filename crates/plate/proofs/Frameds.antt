@@ -16,7 +16,7 @@ use Rattle.plate.specs.Plans.{Within, Bytes, SoundFramed, bytes_of_frame, framed
 use Rattle.plate.proofs.Fields.{field_within, field_high, field_byte, field_drop}
 use Rattle.plate.proofs.Frames.{frames_length}
 use Rattle.plate.proofs.Halves.{high_half, low_half, by_sixteen, by_nibble, four_three}
-use Rattle.plate.proofs.Nones.{or-none, when_none, mapped_none, first_all, all_first, ranged, in_range}
+use Rattle.plate.proofs.Nones.{or_none, when_none, mapped_none, first_all, all_first, ranged, in_range}
 
 -- the three fields of the frame in front
 front_budget : (bs : List ℕ) → field bs 0 12 ≡ get_or bs 0 0 % 256 * 16 + get_or bs 1 0 / 16 % 16
@@ -109,9 +109,9 @@ clean : (row p gap : ℕ) (frames : List Frame) → framed_fault row p gap frame
     × ((i : ℕ) → i < length frames → bad_budget gap (frame_at frames i).budget ≡ false)
     × ((i : ℕ) → i < length frames → no_rank (frame_at frames i).rank ≡ false)
 clean row p gap frames e =
-    let a = or-none _ _ e in
-    let b = or-none _ _ a.1 in
-    let c = or-none _ _ b.1 in (
+    let a = or_none _ _ e in
+    let b = or_none _ _ a.1 in
+    let c = or_none _ _ b.1 in (
       ranged gap 4095 (when_none _ _ b.0),
       ranged (length frames) 8 (when_none _ _ a.0),
       first_all (λ i. bad_budget gap (frame_at frames i).budget) (length frames) (mapped_none _ _ c.0),
@@ -194,10 +194,10 @@ parts bs p row e =
     let bytes : List ℕ = frame_bytes bs p in
     let test : ℕ → Bool = λ i. ltb 0 (field bytes (24 * i + 20) 4) in
     let where-at : ℕ → Denial = λ i. denied Spare row (p + 36 + 24 * i) in
-    let a = or-none (short_fault bs row (p / 8 + 2)) _ e in
-    let b = or-none (short_fault bs row ((p + 16) / 8 + 3 * frames_count bs p)) _ a.1 in
-    let c = or-none (spare_fault row (p + 15) (field bs (p + 15) 1)) _ b.1 in
-    let d = or-none (option_map where-at (spare_frame bytes (length bytes / 3))) _ c.1 in
+    let a = or_none (short_fault bs row (p / 8 + 2)) _ e in
+    let b = or_none (short_fault bs row ((p + 16) / 8 + 3 * frames_count bs p)) _ a.1 in
+    let c = or_none (spare_fault row (p + 15) (field bs (p + 15) 1)) _ b.1 in
+    let d = or_none (option_map where-at (spare_frame bytes (length bytes / 3))) _ c.1 in
     let none = first_all test (length bytes / 3) (mapped_none where-at (spare_frame bytes (length bytes / 3)) d.0) in (
       ltb-false (length bs) ((p + 16) / 8 + 3 * frames_count bs p) (when_none _ _ b.0),
       (let z = ltb-false 0 (field bs (p + 15) 1) (when_none _ _ c.0) in omega (arith, z)),

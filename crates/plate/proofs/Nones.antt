@@ -7,9 +7,9 @@ use Rattle.denial.specs.Checks.{when}
 use Rattle.find.specs.First.{first}
 use Rattle.plate.specs.Plans.{Within}
 
-pub or-none : {A : Type 0} (a b : Option A) → option_or a b ≡ None → (a ≡ None) × (b ≡ None)
-or-none None b e = (refl, e)
-or-none (Some x) b e = let z : ◌≡◌ {A = ℕ} 0 1 = cc in absurd (omega arith)
+pub or_none : {A : Type 0} (a b : Option A) → option_or a b ≡ None → (a ≡ None) × (b ≡ None)
+or_none None b e = (refl, e)
+or_none (Some x) b e = let z : ◌≡◌ {A = ℕ} 0 1 = cc in absurd (omega arith)
 
 pub when_none : (t : Bool) (d : Denial) → when t d ≡ None → t ≡ false
 when_none true d e = let z : ◌≡◌ {A = ℕ} 0 1 = cc in absurd (omega arith)
@@ -24,7 +24,7 @@ pub first_all : (f : ℕ → Bool) (n : ℕ) → first f n ≡ None → (i : ℕ
 unfolding first
 first_all f zero e i l = absurd (omega arith)
 first_all f (suc n) e i l =
-    let both = or-none (first f n) (cond (f n) (Some n) None) e in
+    let both = or_none (first f n) (cond (f n) (Some n) None) e in
     elim (cases_order i n) [
       | inl q ↦ rw q (last (f n) both.1)
       | inr (inl q) ↦ first_all f n both.0 i q

@@ -5,7 +5,7 @@ use Rattle.std.specs.List.{flat_map}
 use Rattle.std.proofs.lemmas.List.{drop-drop, drop_all, drop_at, append-nil, take_at, take-append-drop, length-append, length-drop, length-take-le, take_more}
 use Rattle.plate.specs.Writing.{put_at}
 
--- a part that is written whole, as put-at
+-- a part that is written whole, as put_at
 pub put_is : (a k : ℕ) (xs ys zs : List ℕ) → ys ≡ zs → k ≡ length zs → put_mid a k xs ys ≡ put_at xs a zs
 put_is a k xs ys zs e f = rw (e, f) (ap (λ t. take a xs ++ (zs ++ t)) (drop-drop (length zs) a xs))
 

@@ -7,7 +7,7 @@ use Rattle.denial.specs.Checks.{unless}
 use Rattle.plate.specs.Plans.{extra_fault}
 use Rattle.plate.specs.Reading.{State, Kept, Handed, counted_here, framed_here, row_denial, next_row, after_row, open_denial, opened, next_denial, SoundRow, SoundNext}
 use Rattle.plate.proofs.Fields.{field_low}
-use Rattle.plate.proofs.Nones.{or-none}
+use Rattle.plate.proofs.Nones.{or_none}
 use Rattle.plate.proofs.Counteds
 use Rattle.plate.proofs.Frameds
 
@@ -102,5 +102,5 @@ sound_next bs s (Err d) e = tt
 sound_next bs s (Ok None) e = tt
 sound_next bs s (Ok (Some h)) e =
     let got = unless_ok (next_denial bs s) (next_row bs (opened bs s)) (Some h) e in
-    let parts = or-none (open_denial bs s) (row_denial bs (opened bs s)) got.0 in
+    let parts = or_none (open_denial bs s) (row_denial bs (opened bs s)) got.0 in
     sound_step bs (opened bs s) h parts.1 (sym got.1)

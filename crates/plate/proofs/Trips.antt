@@ -11,7 +11,7 @@ use Rattle.plate.specs.Plans.{Plan, with_counted, with_framed, extra_fault, fram
 use Rattle.std.proofs.lemmas.Nat.{div-mul-add, mod-mul-add}
 use Rattle.plate.proofs.Fields.{header_edition, header_counted, header_framed}
 use Rattle.plate.proofs.Steps.{unless_ok}
-use Rattle.plate.proofs.Nones.{or-none, when_none}
+use Rattle.plate.proofs.Nones.{or_none, when_none}
 use Rattle.plate.proofs.Counteds
 use Rattle.plate.proofs.Frameds
 
@@ -162,7 +162,7 @@ counts_fit m n hm hn h = rw (le-ltb 16 m hm, le-ltb 16 n hn, both_zero m n h)
 
 counts_say : (m n : ℕ) → counts_fault m n ≡ None → (m ≤ 16) × (n ≤ 16) × (1 ≤ m + n)
 counts_say m n e =
-    let a = or-none _ _ e in
+    let a = or_none _ _ e in
     let b = or_parts (ltb 16 m) (eqb m 0 && eqb n 0) (when_none _ _ a.0) in (
       ltb-false 16 m b.0,
       ltb-false 16 n (when_none _ _ a.1),
@@ -188,8 +188,8 @@ pub read_is_written : ReadIsWritten
 unfolding decode header_denial
 read_is_written bs small plan e =
     let got = past_ok (header_denial bs) (counted_from bs (field bs 4 6) (field bs 10 6) 16 0) plan e in
-    let a = or-none _ _ got.0 in
-    let b = or-none _ _ a.1 in
+    let a = or_none _ _ got.0 in
+    let b = or_none _ _ a.1 in
     let long = ltb-false (length bs) 2 (when_none _ _ a.0) in
     let edition = not_from_eqb (field bs 0 4) 1 (when_none _ _ b.0) in
     let few = counts_say (field bs 4 6) (field bs 10 6) b.1 in

@@ -15,7 +15,7 @@ use Rattle.dispatcher.specs.Sound.{SlotSound, Sound, ready_of}
 use Rattle.promise.specs.Promise.{SoundGroup, in_time}
 use Rattle.promise.specs.Window.{Reached, busy, Enough, Course, Within}
 use Rattle.promise.proofs.Sums.{sum_apart, largest_class, jobs_bound, few}
-use Rattle.promise.proofs.Window.{clash, eqb-true, AllSound}
+use Rattle.promise.proofs.Window.{clash, eqb_true, AllSound}
 use Rattle.promise.proofs.Views.{flow}
 use Rattle.promise.proofs.Closed.{always_sound, window_theorem}
 use Rattle.dispatcher.proofs.Foremosts.{runner_foremost}
@@ -35,7 +35,7 @@ pub same_is : (a b : Option ℕ) → same_task a b ≡ true → a ≡ b
 same_is None None e = refl
 same_is None (Some b) e = absurd (clash false e refl)
 same_is (Some a) None e = absurd (clash false e refl)
-same_is (Some a) (Some b) e = ap Some (eqb-true a b e)
+same_is (Some a) (Some b) e = ap Some (eqb_true a b e)
 
 pub is_same : (a : Option ℕ) → same_task a a ≡ true
 is_same None = refl
@@ -90,7 +90,7 @@ module _ (ts : List Task) (places : List ℕ) (grp : SoundGroup ts places) (acc 
     where
       on : (x : Bool) → eqb i k ≡ x →
           Enough (at ts i) (cond x (as_high (at ts i) rank) (higher (at ts i) rank)) R (cond x (largest rank (at ts k).classes) ((at ts i).demand (jobs R (at ts i).gap) rank))
-      on true e = let q = eqb-true i k e in rw q (enough_own (at ts k) rank R bd.high)
+      on true e = let q = eqb_true i k e in rw q (enough_own (at ts k) rank R bd.high)
       on false e = enough_other (at ts i) rank R (omega (arith, bd.high, (grp.lawful k bd.task).gap_high)) (grp.lawful i l)
 
   -- a counted job is ranked high enough
@@ -100,7 +100,7 @@ module _ (ts : List Task) (places : List ℕ) (grp : SoundGroup ts places) (acc 
     where
       on : (x : Bool) → eqb i k ≡ x → cond x (as_high (at ts i) rank) (higher (at ts i) rank) d ≡ true →
           (is_pending (Pending d r u) ≡ true) × (rank ≤ (terms_of (at ts i) d).rank) × (i ≢ k → rank < (terms_of (at ts i) d).rank)
-      on true e h = (refl, grind arith, λ ne. absurd (ne (eqb-true i k e)))
+      on true e h = (refl, grind arith, λ ne. absurd (ne (eqb_true i k e)))
       on false e h = (refl, grind arith, λ ne. grind arith)
   counted_high i Halted h = absurd (clash false h refl)
 

@@ -14,7 +14,7 @@ use Rattle.dispatcher.specs.Records.{ends_at, ends_upto}
 use Rattle.promise.specs.Reading.{told}
 use Rattle.dispatcher.proofs.Ends.{way_at}
 use Rattle.dispatcher.proofs.Faults.{never}
-use Rattle.promise.proofs.Window.{eqb-true}
+use Rattle.promise.proofs.Window.{eqb_true}
 
 module _ (ts : List Task) (s : State) (mark : Bool) (ran : Option ℕ) where
   -- a record tells of an end
@@ -59,7 +59,7 @@ module _ (ts : List Task) (s : State) (mark : Bool) (ran : Option ℕ) where
   told_some n k (r ∷ rs) a w e = on (eqb r.task k) refl e (λ z. told_some n k rs a.1 w z)
     where
       on : (b : Bool) → eqb r.task k ≡ b → cond b (Some r.way) (told k rs) ≡ Some w → (told k rs ≡ Some w → way_at ts s mark ran k ≡ Some w) → way_at ts s mark ran k ≡ Some w
-      on true q z f = subst (λ i. way_at ts s mark ran i ≡ Some w) (eqb-true r.task k q) (a.0.way ∙ z)
+      on true q z f = subst (λ i. way_at ts s mark ran i ≡ Some w) (eqb_true r.task k q) (a.0.way ∙ z)
       on false q z f = f z
 
   told_none : (k : ℕ) (rs : List End) → told k rs ≡ None → AllByRecursion (λ e. e.task ≢ k) rs

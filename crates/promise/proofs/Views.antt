@@ -8,7 +8,7 @@ use Rattle.dispatcher.specs.State as state
 use Rattle.dispatcher.specs.State.{State, Standing, stands, new_seat, seated, standing, slot_of, is_running, release_one, resume_one, tick_one, ticked}
 use Rattle.dispatcher.proofs.Fates.{fate, fated, tick_is_fated}
 use Rattle.dispatcher.proofs.Sounds.{not_halted_is, release_is, released, resume_is, resumed}
-use Rattle.promise.proofs.Window.{Flow, Same, next, Free, AllSound, eqb-true}
+use Rattle.promise.proofs.Window.{Flow, Same, next, Free, AllSound, eqb_true}
 use Rattle.promise.proofs.Window.Move.{release, tick, resume}
 use Rattle.dispatcher.proofs.Faults.{takes_from, Releases, Resumes}
 
@@ -25,7 +25,7 @@ set_standing : (xs : List Standing) (k i : ℕ) (x y d : Standing) → i < lengt
 set_standing xs k i x y d l f = on (eqb i k) refl
   where
     on : (b : Bool) → eqb i k ≡ b → get_or (set xs k x) i d ≡ cond b y (get_or xs i d)
-    on true e = let q = eqb-true i k e in subst (λ j. get_or (set xs j x) i d ≡ y) q (get_or-set_same xs i x d l ∙ f q)
+    on true e = let q = eqb_true i k e in subst (λ j. get_or (set xs j x) i d ≡ y) q (get_or-set_same xs i x d l ∙ f q)
     on false e = get_or-set_other xs k i x d (λ q. eqb-false i k e q)
 
 -- The whole ----------------------------------------------------------------------------------------------------------------

@@ -47,18 +47,18 @@ pub record Same (n : ℕ) (a b : Flow) : Type 0 where
 pub clash : (b : Bool) → b ≡ true → b ≡ false → ⊥
 clash b e e' = grind arith
 
-pub not-true : (b : Bool) → (b ≡ true → ⊥) → b ≡ false
-not-true true h = absurd (h refl)
-not-true false h = refl
+pub not_true : (b : Bool) → (b ≡ true → ⊥) → b ≡ false
+not_true true h = absurd (h refl)
+not_true false h = refl
 
-pub eqb-true : (i k : ℕ) → eqb i k ≡ true → i ≡ k
-eqb-true i k e = grind arith
+pub eqb_true : (i k : ℕ) → eqb i k ≡ true → i ≡ k
+eqb_true i k e = grind arith
 
 pub pick : (P : Standing → Type 0) (i k : ℕ) (a b : Standing) → (i ≡ k → P a) → P b → P (cond (eqb i k) a b)
 pick P i k a b f h = at (eqb i k) refl
   where
     at : (x : Bool) → eqb i k ≡ x → P (cond x a b)
-    at true e = f (eqb-true i k e)
+    at true e = f (eqb_true i k e)
     at false e = h
 
 -- a counted job pending after a tick was pending before, and lasted
@@ -107,7 +107,7 @@ pub record Window (ts : ℕ → Task) (n : ℕ) (counts : ℕ → ℕ → Bool) 
 
 pub calm_tick : (ts : ℕ → Task) (n : ℕ) (counts : ℕ → ℕ → Bool) (s : Flow) (mark : Bool) (ran : Option ℕ) → Calm counts n s → Calm counts n (next ts s (tick mark ran))
 calm_tick ts n counts s mark ran calm i l =
-    not-true (busy (counts i) ((next ts s (tick mark ran)).loop i).seat.slot)
+    not_true (busy (counts i) ((next ts s (tick mark ran)).loop i).seat.slot)
     (λ h. clash (busy (counts i) (s.loop i).seat.slot) (busy_after (ts i) (counts i) s.clock (is_running ran i) mark (s.loop i) h).1 (calm i l))
 
 module _ (ts : ℕ → Task) (n : ℕ) (counts : ℕ → ℕ → Bool) (R : ℕ) where
@@ -181,7 +181,7 @@ module _ (ts : ℕ → Task) (n : ℕ) (counts : ℕ → ℕ → Bool) (R : ℕ)
             covers = paid;
             each = λ i l. tally_tick (ts i) (counts i) from s.clock (is_running ran i) mark (law i l) (s.loop i) (w.spent i) (sound i l) (w.each i l);
           })
-          at (inr h) = inr (λ i l. not-true (busy (counts i) ((next ts s (tick mark ran)).loop i).seat.slot) (λ b. no i l b))
+          at (inr h) = inr (λ i l. not_true (busy (counts i) ((next ts s (tick mark ran)).loop i).seat.slot) (λ b. no i l b))
             where
               no : (i : ℕ) → i < n → busy (counts i) ((next ts s (tick mark ran)).loop i).seat.slot ≡ true → ⊥
               no i l b = let q = window_lasts i l (busy_after (ts i) (counts i) s.clock (is_running ran i) mark (s.loop i) b).0 in omega arith
