@@ -2,6 +2,8 @@
 use Rattle.std.specs.Prelude.{◌≡◌, ℕ, ◌≤◌, List, ◌++◌, codes, decimal}
 use Rattle.denial.specs.declared.Rule.{Rule}
 use Rattle.denial.specs.declared.Rule.TheVariants.{Short, Edition, RowCounts, Spare, Times, Ranks, Extra, Room, Started, Scratch, TaskCount, SharedRank, Unbounded, NotStarted, NoTask, NoClass, Halted, TooSoon, NotHalted, ClockEnd, NothingPending, ListRoom}
+use Rattle.denial.specs.declared.Layer.{Layer}
+use Rattle.denial.specs.declared.Layer.TheVariants.{Bits, Rows, Plate, Start, Dispatcher}
 use Rattle.denial.specs.declared.Denial.{Denial}
 
 -- the number under which a rule is reported
@@ -57,6 +59,14 @@ layer_of NotHalted = 5
 layer_of ClockEnd = 5
 layer_of NothingPending = 5
 layer_of ListRoom = 5
+
+-- the number under which a layer is reported
+abbrev pub layer_number : Layer → ℕ
+layer_number Bits = 1
+layer_number Rows = 2
+layer_number Plate = 3
+layer_number Start = 4
+layer_number Dispatcher = 5
 
 -- a denial by a rule, with its two details
 abbrev pub denied : Rule → ℕ → ℕ → Denial

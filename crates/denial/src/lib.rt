@@ -2,57 +2,68 @@
 #![tactic(auto)]
 
 ghost use Rattle.std.specs.Prelude.{◌≡◌, ◌≤◌, Some};
-ghost use Rattle.denial.specs.Numbers.{number_of, layer_of, denied, Alone, report};
+ghost use Rattle.denial.specs.Numbers.{number_of, layer_of, layer_number, denied, Alone, report};
 
+use std::error::Error;
 use std::fmt;
 
-// One case for each rule, in the order of their numbers. docs/RULES.md says what each means.
+// One case for each rule, with the number under which it is reported. docs/RULES.md says what each means.
 #[derive(Clone, Copy, PartialEq, Eq, Debug)]
 pub enum Rule {
     // The plate ends before its header or the present row is complete.
-    Short,
+    Short = 1,
     // The edition is not 1.
-    Edition,
+    Edition = 2,
     // A number of rows is above 16, or both are 0.
-    RowCounts,
+    RowCounts = 3,
     // A spare field is not zero.
-    Spare,
+    Spare = 4,
     // A gap is 0, or a budget is 0 or above the gap.
-    Times,
+    Times = 5,
     // A rank is 0, or ranks of a miss-counted row fall.
-    Ranks,
+    Ranks = 6,
     // Bytes remain after the last row.
-    Extra,
+    Extra = 7,
     // A buffer to write to is too short.
-    Room,
+    Room = 8,
     // The dispatcher is already started.
-    Started,
+    Started = 9,
     // The scratch is shorter than 256 bytes.
-    Scratch,
+    Scratch = 10,
     // The group has no task, or more than 64.
-    TaskCount,
+    TaskCount = 11,
     // Two tasks use the same rank.
-    SharedRank,
+    SharedRank = 12,
     // A class whose miss is not tolerated has no bound.
-    Unbounded,
+    Unbounded = 13,
     // Release, tick or resume before an accepted start.
-    NotStarted,
+    NotStarted = 14,
     // The task number is not below the count.
-    NoTask,
+    NoTask = 15,
     // The class number is 0 or above the task's classes.
-    NoClass,
+    NoClass = 16,
     // A release of a halted task.
-    Halted,
+    Halted = 17,
     // Fewer than gap ticks since the task's last accepted release.
-    TooSoon,
+    TooSoon = 18,
     // A resume of a task that is not halted.
-    NotHalted,
+    NotHalted = 19,
     // A tick at the clock's last value.
-    ClockEnd,
+    ClockEnd = 20,
     // A finish is marked while no job is pending.
-    NothingPending,
+    NothingPending = 21,
     // The list for ends is shorter than the number of pending jobs.
-    ListRoom,
+    ListRoom = 22,
+}
+
+// What a rule speaks of, with the number under which the layer is reported.
+#[derive(Clone, Copy, PartialEq, Eq, Debug)]
+pub enum Layer {
+    Bits = 1,
+    Rows = 2,
+    Plate = 3,
+    Start = 4,
+    Dispatcher = 5,
 }
 
 // A refusal: the rule, and two details whose meaning depends on the rule.
@@ -80,44 +91,30 @@ impl Rule {
         ensures value { result ≡ number_of self }
         ensures alone { Alone self result }
     {
-        match self {
-            Rule::Short => 1,
-            Rule::Edition => 2,
-            Rule::RowCounts => 3,
-            Rule::Spare => 4,
-            Rule::Times => 5,
-            Rule::Ranks => 6,
-            Rule::Extra => 7,
-            Rule::Room => 8,
-            Rule::Started => 9,
-            Rule::Scratch => 10,
-            Rule::TaskCount => 11,
-            Rule::SharedRank => 12,
-            Rule::Unbounded => 13,
-            Rule::NotStarted => 14,
-            Rule::NoTask => 15,
-            Rule::NoClass => 16,
-            Rule::Halted => 17,
-            Rule::TooSoon => 18,
-            Rule::NotHalted => 19,
-            Rule::ClockEnd => 20,
-            Rule::NothingPending => 21,
-            Rule::ListRoom => 22,
-        }
+        self as u16
     }
 
-    // The layer that the rule belongs to: 1 bits, 2 rows, 3 plate, 4 start, 5 dispatcher.
-    pub fn layer(self) -> u16
-        ensures { result ≡ layer_of self }
+    // The layer that the rule belongs to.
+    pub fn layer(self) -> Layer
+        ensures { layer_number result ≡ layer_of self }
     {
         match self {
-            Rule::Short => 1,
-            Rule::Spare | Rule::Times | Rule::Ranks => 2,
-            Rule::Edition | Rule::RowCounts | Rule::Extra | Rule::Room => 3,
+            Rule::Short => Layer::Bits,
+            Rule::Spare | Rule::Times | Rule::Ranks => Layer::Rows,
+            Rule::Edition | Rule::RowCounts | Rule::Extra | Rule::Room => Layer::Plate,
             Rule::Started | Rule::Scratch | Rule::TaskCount | Rule::SharedRank | Rule::Unbounded =>
-                4,
-            _ => 5,
+                Layer::Start,
+            _ => Layer::Dispatcher,
         }
+    }
+}
+
+impl Layer {
+    // The number under which the layer is reported.
+    pub fn number(self) -> u16
+        ensures { result ≡ layer_number self }
+    {
+        self as u16
     }
 }
 
@@ -128,8 +125,8 @@ impl Denial {
         self.rule.number()
     }
 
-    pub fn layer(&self) -> u16
-        ensures { result ≡ layer_of self.now.rule }
+    pub fn layer(&self) -> Layer
+        ensures { layer_number result ≡ layer_of self.now.rule }
     {
         self.rule.layer()
     }
@@ -140,9 +137,14 @@ impl fmt::Display for Denial {
     ghost output = { λ d. Some (report d) };
 
     fn fmt<W: fmt::Write>(&self, f: &mut fmt::Formatter<W>) -> fmt::Result {
-        let number = self.number();
-        let first = self.first;
-        let second = self.second;
-        write!(f, "refused {number} {first} {second}")
+        write!(
+            f,
+            "refused {} {} {}",
+            self.number(),
+            self.first,
+            self.second
+        )
     }
 }
+
+impl Error for Denial {}

@@ -20,7 +20,7 @@ mod tests {
     fn refusal(plate: &[u8]) -> (u16, u16, u16, u16) {
         match accept(plate) {
             Ok(_) => (0, 0, 0, 0),
-            Err(d) => (d.number(), d.layer(), d.first, d.second),
+            Err(d) => (d.number(), d.layer().number(), d.first, d.second),
         }
     }
 
@@ -166,7 +166,10 @@ mod tests {
         match largest(&mut out[0..600]) {
             Ok(_) => Err(Fail::new("600 bytes are too few")),
             Err(d) => {
-                assert_eq!(rt; (d.number(), d.layer(), d.first, d.second), (8, 3, 610, 0));
+                assert_eq!(rt;
+                    (d.number(), d.layer().number(), d.first, d.second),
+                    (8, 3, 610, 0)
+                );
                 Ok(())
             },
         }
