@@ -1,5 +1,5 @@
 -- Two groups as one: the first list and then the second, ended at 65,535. Assumes nothing.
-use Rattle.std.specs.Prelude.{◌≡◌, ℕ, ◌-◌, cond, List, ◌++◌, take, nat_lt, slice_index_or}
+use Rattle.std.specs.Prelude.{◌≡◌, ⊤, ℕ, ◌-◌, cond, List, ◌++◌, take, nat_lt, slice_index_or}
 use Rattle.group.specs.declared.part.Part.{Part}
 use Rattle.group.specs.declared.part.Part.TheVariants.{First, Second, Absent}
 use Rattle.group.specs.declared.meaning.Outcome.{Outcome}
@@ -36,3 +36,15 @@ pub record Stands (ta tb : List Task) (pa pb : List ℕ) (task : ℕ) (r : Part)
   pub tasks : at (joint ta tb) task ≡ picked r ta tb no_task
   pub places : place (joint pa pb) task ≡ picked r pa pb 0
   pub moves : (o : Outcome) → joint (settled_first r ta pa o) (settled_second r tb pb o) ≡ settled (joint ta tb) (joint pa pb) task o
+
+-- what may be asked of the group of a part
+abbrev pub MayAsk : Part → (ℕ → Type 0) → (ℕ → Type 0) → Type 0
+MayAsk (First i) first second = first i
+MayAsk (Second i) first second = second i
+MayAsk Absent first second = ⊤
+
+-- what it answers
+abbrev pub Answers : {T : Type 0} → Part → T → (ℕ → T → Type 0) → (ℕ → T → Type 0) → T → Type 0
+Answers (First i) none first second r = first i r
+Answers (Second i) none first second r = second i r
+Answers Absent none first second r = r ≡ none

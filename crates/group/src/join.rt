@@ -73,45 +73,43 @@ impl<A: Group, B: Group> Group for Join<A, B> {
     }
 
     fn gap(&self, task: u16) -> u16 {
-        match self.part(task) {
-            Part::First(i) => self.first.gap(i),
-            Part::Second(i) => self.second.gap(i),
-            Part::Absent => 0,
-        }
+        self.part(task)
+            .ask(0, |i| self.first.gap(i), |i| self.second.gap(i))
     }
 
     fn class_count(&self, task: u16) -> u8 {
-        match self.part(task) {
-            Part::First(i) => self.first.class_count(i),
-            Part::Second(i) => self.second.class_count(i),
-            Part::Absent => 0,
-        }
+        self.part(task).ask(
+            0,
+            |i| self.first.class_count(i),
+            |i| self.second.class_count(i),
+        )
     }
 
     fn terms(&self, task: u16, class: u8) -> Terms {
-        match self.part(task) {
-            Part::First(i) => self.first.terms(i, class),
-            Part::Second(i) => self.second.terms(i, class),
-            Part::Absent => Terms::NONE,
-        }
+        self.part(task).ask(
+            Terms::NONE,
+            |i| self.first.terms(i, class),
+            |i| self.second.terms(i, class),
+        )
     }
 
     fn present_class(&self, task: u16) -> u8 {
-        match self.part(task) {
-            Part::First(i) => self.first.present_class(i),
-            Part::Second(i) => self.second.present_class(i),
-            Part::Absent => 0,
-        }
+        self.part(task).ask(
+            0,
+            |i| self.first.present_class(i),
+            |i| self.second.present_class(i),
+        )
     }
 
     fn demand(&self, task: u16, jobs: u16, rank: u8) -> u32 {
-        match self.part(task) {
-            Part::First(i) => self.first.demand(i, jobs, rank),
-            Part::Second(i) => self.second.demand(i, jobs, rank),
-            Part::Absent => 0,
-        }
+        self.part(task).ask(
+            0,
+            |i| self.first.demand(i, jobs, rank),
+            |i| self.second.demand(i, jobs, rank),
+        )
     }
 
+    // A match and no closures: a contract of each would have to say again what it moves.
     fn settle(&mut self, task: u16, outcome: Outcome) {
         match self.part(task) {
             Part::First(i) => self.first.settle(i, outcome),
