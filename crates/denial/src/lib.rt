@@ -2,6 +2,7 @@
 #![tactic(auto)]
 
 ghost use Rattle.std.specs.Prelude.{◌≡◌, ◌≤◌, Some};
+ghost use Rattle.denial.specs.Checks.{unless, short_of};
 ghost use Rattle.denial.specs.Numbers.{number_of, layer_of, layer_number, denied, Alone, report};
 
 use std::error::Error;
@@ -130,6 +131,16 @@ impl Denial {
     {
         self.rule.layer()
     }
+}
+
+// Refuses a buffer of `room` bytes where `needed` are needed; a detail goes no higher than 65,535.
+pub fn check_room(needed: usize, room: usize) -> Result<(), Denial>
+    ensures { result ≡ unless (short_of needed room) tt }
+{
+    if room < needed {
+        return Err(Rule::Room.denies(needed.min(65535) as u16, 0));
+    }
+    Ok(())
 }
 
 // `refused`, the number and the two details.
