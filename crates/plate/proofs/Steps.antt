@@ -1,5 +1,5 @@
 -- One step of a reader, past the header.
-use Rattle.std.proofs.Common.{◌≡◌, ℕ, ◌+◌, ◌-◌, ◌<◌, ◌≤◌, cond, ltb, List, Some, None, Ok, Err, Option, Result, sym, refl, subst, inl, inr, arith}
+use Rattle.std.proofs.Common.{◌≡◌, ℕ, ◌+◌, ◌-◌, ◌<◌, ◌≤◌, cond, ltb, List, Some, None, Ok, Err, Option, Result, sym, subst, inl, inr, arith}
 use Rattle.std.proofs.lemmas.Bool.{lt-ltb, le-ltb, cond_both, cases_lt}
 use Rattle.denial.specs.declared.Denial.{Denial}
 use Rattle.plate.specs.Rows.{counted_bits, counted_denial, framed_bits, framed_denial}
@@ -7,19 +7,9 @@ use Rattle.denial.specs.Checks.{unless}
 use Rattle.plate.specs.Plans.{extra_fault}
 use Rattle.plate.specs.Reading.{State, Kept, Handed, counted_here, framed_here, row_denial, next_row, after_row, open_denial, opened, next_denial, SoundRow, SoundNext}
 use Rattle.plate.proofs.Fields.{field_low}
-use Rattle.plate.proofs.Nones.{or_none}
+use Rattle.plate.proofs.Nones.{or_none, unless_ok}
 use Rattle.plate.proofs.Counteds
 use Rattle.plate.proofs.Frameds
-
--- a value came, so there was no fault
-pub unless_ok : {A : Type 0} (o : Option Denial) (x h : A) → Ok h ≡ unless o x → (o ≡ None) × (h ≡ x)
-unless_ok None x h e = (refl, cc)
-unless_ok (Some d) x h e = let z : ◌≡◌ {A = ℕ} 0 1 = cc in absurd (omega arith)
-
--- a fault came, so there was one
-pub unless_err : {A : Type 0} (o : Option Denial) (x : A) (d : Denial) → Err d ≡ unless o x → o ≡ Some d
-unless_err None x d e = let z : ◌≡◌ {A = ℕ} 0 1 = cc in absurd (omega arith)
-unless_err (Some c) x d e = cc
 
 -- a place only grows
 pub after_place : (bs : List ℕ) (s : State) → 0 < s.place → 0 < (after_row bs s).place

@@ -1,5 +1,6 @@
 // A plate and a bit place in it, moved on by reading.
-ghost use Rattle.std.specs.Prelude.{◌≡◌, ℕ, ◌+◌, ◌-◌, ◌*◌, ◌/◌, ◌%◌, ◌^◌, ◌<◌, ◌≤◌, length, take, drop, IfNone};
+ghost use Rattle.std.specs.Prelude.{◌≡◌, ℕ, ◌+◌, ◌-◌, ◌*◌, ◌/◌, ◌%◌, ◌^◌, ◌<◌, ◌≤◌, length, take, drop, OnOk};
+ghost use Rattle.denial.specs.Checks.{unless};
 ghost use Rattle.plate.specs.Bits.{field};
 ghost use Rattle.plate.specs.Rows.{short_fault};
 
@@ -40,16 +41,16 @@ impl<'a> Cursor<'a> {
             + within_byte(self.plate[at + 1], 0, low)
     }
 
-    // The refusal of a plate that has no n bytes more.
-    pub(crate) fn lacks(&self, row: u16, n: usize) -> Option<Denial>
+    // The plate has n bytes more.
+    pub(crate) fn check_left(&self, row: u16, n: usize) -> Result<(), Denial>
         requires { (self.now.place < 2 ^ 13) × (n < 2 ^ 8) }
-        ensures value { result ≡ short_fault self.now.plate.now row (self.now.place / 8 + n) }
-        ensures enough { IfNone result (self.now.place / 8 + n ≤ length self.now.plate.now) }
+        ensures value { result ≡ unless (short_fault self.now.plate.now row (self.now.place / 8 + n)) tt }
+        ensures enough { OnOk result (self.now.place / 8 + n ≤ length self.now.plate.now) }
     {
         if self.plate.len() < self.place / 8 + n {
-            return Some(Rule::Short.denies(row, 8 * self.plate.len() as u16));
+            return Err(Rule::Short.denies(row, 8 * self.plate.len() as u16));
         }
-        None
+        Ok(())
     }
 
     // The next n bytes.

@@ -1,5 +1,5 @@
 // Reading a plate row by row.
-ghost use Rattle.std.specs.Prelude.{◌≡◌, ℕ, ◌+◌, ◌-◌, ◌*◌, ◌/◌, ◌%◌, ◌^◌, ◌<◌, ◌≤◌, true, cond, length, IfNone, is_ok, Some, None, MatchResult};
+ghost use Rattle.std.specs.Prelude.{◌≡◌, ℕ, ◌+◌, ◌-◌, ◌*◌, ◌/◌, ◌%◌, ◌^◌, ◌<◌, ◌≤◌, true, cond, length, OnOk, is_ok, Some, None, MatchResult};
 ghost use Rattle.plate.specs.Bits.{field};
 ghost use Rattle.denial.specs.Checks.{unless};
 ghost use Rattle.plate.specs.Plans.{counts_fault, extra_fault, header_denial};
@@ -13,28 +13,28 @@ use super::rows::{counted_row, framed_row};
 use denial::{Denial, Rule};
 
 // Each number of rows is at most 16, and they are not both 0.
-pub(crate) fn counts_fault(counted: u8, framed: u8) -> Option<Denial>
-    ensures value { result ≡ counts_fault counted framed }
-    ensures few { IfNone result ((counted ≤ 16) × (framed ≤ 16)) }
+pub(crate) fn check_counts(counted: u8, framed: u8) -> Result<(), Denial>
+    ensures value { result ≡ unless (counts_fault counted framed) tt }
+    ensures few { OnOk result ((counted ≤ 16) × (framed ≤ 16)) }
 {
     if counted > 16 || (counted == 0 && framed == 0) {
-        return Some(Rule::RowCounts.denies(255, 4));
+        return Err(Rule::RowCounts.denies(255, 4));
     }
     if framed > 16 {
-        return Some(Rule::RowCounts.denies(255, 10));
+        return Err(Rule::RowCounts.denies(255, 10));
     }
-    None
+    Ok(())
 }
 
 // Nothing stands after the last row.
-fn extra_fault(cursor: Cursor) -> Option<Denial>
+fn check_end(cursor: Cursor) -> Result<(), Denial>
     requires { (cursor.place % 8 ≡ 0) × (cursor.place ≤ 4880) }
-    ensures { result ≡ extra_fault cursor.entry.plate.now cursor.entry.place }
+    ensures { result ≡ unless (extra_fault cursor.entry.plate.now cursor.entry.place) tt }
 {
     if cursor.place / 8 < cursor.plate.len() {
-        return Some(Rule::Extra.denies(255, cursor.place as u16));
+        return Err(Rule::Extra.denies(255, cursor.place as u16));
     }
-    None
+    Ok(())
 }
 
 // The header: edition 4 bits, number of miss-counted rows 6, number of frame rows 6. The rest is rows.
@@ -52,9 +52,7 @@ fn header(plate: &[u8]) -> Result<Position<'_>, Denial>
     }
     let counted = *first % 16 * 4 + *second / 64;
     let framed = *second % 64;
-    if let Some(denial) = counts_fault(counted, framed) {
-        return Err(denial);
-    }
+    check_counts(counted, framed)?;
     let cursor = Cursor {
         plate,
         place: 8 * (plate.len() - rest.len()),
@@ -115,9 +113,7 @@ fn advance<'a>(at: &mut Position<'a>) -> Result<Option<Row<'a>>, Denial>
         *at = past(*at, cursor, at.counted, at.framed - 1);
         return Ok(Some(row));
     }
-    if let Some(denial) = extra_fault(cursor) {
-        return Err(denial);
-    }
+    check_end(cursor)?;
     Ok(None)
 }
 

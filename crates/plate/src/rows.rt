@@ -7,7 +7,7 @@ ghost use Rattle.denial.specs.Checks.{unless};
 ghost use Rattle.plate.specs.Reading.{told, counted_here, framed_here};
 
 use super::cursor::Cursor;
-use super::faults::{counted_fault, framed_fault, spare_fault};
+use super::faults::{check_counted, check_framed, check_spare};
 use super::frame::{first_spare, unpack};
 use super::row::Row;
 use denial::{Denial, Rule};
@@ -42,18 +42,22 @@ fn counted_head(cursor: &mut Cursor) -> CountedHead
     }
 }
 
-// The first fault of a complete miss-counted row from bit `place` on.
-fn counted_content(row: u16, place: u16, head: CountedHead, ranks: &[u8]) -> Option<Denial>
+// A complete miss-counted row from bit `place` on keeps its rules.
+fn check_counted_content(
+    row: u16,
+    place: u16,
+    head: CountedHead,
+    ranks: &[u8],
+) -> Result<(), Denial>
     requires { place < 2 ^ 13 }
-    ensures { result ≡ counted_content row place head.gap head.budget head.spare ranks.now }
+    ensures { result ≡ unless (counted_content row place head.gap head.budget head.spare ranks.now) tt }
 {
-    if let Some(denial) = spare_fault(row, place + 27, head.spare) {
-        return Some(denial);
-    }
-    counted_fault(row, place, head.gap, head.budget, ranks)
+    check_spare(row, place + 27, head.spare)?;
+    check_counted(row, place, head.gap, head.budget, ranks)
 }
 
 // A miss-counted row: its fixed fields, and a rank byte for each class.
+#[tactic(auto, unfolding(crate::specs::Rows::counted_denial))]
 pub(crate) fn counted_row<'a>(cursor: &mut Cursor<'a>, row: u16) -> Result<Row<'a>, Denial>
     requires { (cursor.old.place % 8 ≡ 0) × (cursor.old.place < 2 ^ 13 - 256) }
     ensures plate { cursor.new.plate.now ≡ cursor.old.plate.now }
@@ -63,18 +67,12 @@ pub(crate) fn counted_row<'a>(cursor: &mut Cursor<'a>, row: u16) -> Result<Row<'
         ≡ cursor.old.place + counted_bits cursor.old.plate.now cursor.old.place }
 {
     let start = cursor.place as u16;
-    if let Some(denial) = cursor.lacks(row, 4) {
-        return Err(denial);
-    }
+    cursor.check_left(row, 4)?;
     let head = counted_head(cursor);
     let place = cursor.place;
-    if let Some(denial) = cursor.lacks(row, head.classes) {
-        return Err(denial);
-    }
+    cursor.check_left(row, head.classes)?;
     let ranks = cursor.bytes(head.classes);
-    if let Some(denial) = counted_content(row, start, head, ranks) {
-        return Err(denial);
-    }
+    check_counted_content(row, start, head, ranks)?;
     Ok(Row::MissCounted {
         gap: head.gap,
         budget: head.budget,
@@ -109,30 +107,29 @@ fn framed_head(cursor: &mut Cursor) -> FramedHead
     }
 }
 
-// The first fault of a frame row, from its frame bytes.
-fn unpacked_fault(row: u16, place: u16, gap: u16, bytes: &[u8]) -> Option<Denial>
+// The frames of a row, from their bytes, keep its rules.
+fn check_unpacked(row: u16, place: u16, gap: u16, bytes: &[u8]) -> Result<(), Denial>
     requires { (place < 2 ^ 13) × (length bytes.now ≤ 24) }
-    ensures { result ≡ framed_fault row place gap (frames_of bytes.now) }
+    ensures { result ≡ unless (framed_fault row place gap (frames_of bytes.now)) tt }
 {
     let frames = unpack(bytes);
-    framed_fault(row, place, gap, &frames[0..bytes.len() / 3])
+    check_framed(row, place, gap, &frames[0..bytes.len() / 3])
 }
 
-// The first fault of a complete frame row from bit `place` on.
-fn framed_content(row: u16, place: u16, head: FramedHead, bytes: &[u8]) -> Option<Denial>
+// A complete frame row from bit `place` on keeps its rules.
+fn check_framed_content(row: u16, place: u16, head: FramedHead, bytes: &[u8]) -> Result<(), Denial>
     requires { (place < 2 ^ 13) × (length bytes.now ≤ 24) }
-    ensures { result ≡ framed_content row place head.gap head.spare bytes.now }
+    ensures { result ≡ unless (framed_content row place head.gap head.spare bytes.now) tt }
 {
-    if let Some(denial) = spare_fault(row, place + 15, head.spare) {
-        return Some(denial);
-    }
+    check_spare(row, place + 15, head.spare)?;
     if let Some(i) = first_spare(bytes) {
-        return Some(Rule::Spare.denies(row, place + 36 + 24 * i as u16));
+        return Err(Rule::Spare.denies(row, place + 36 + 24 * i as u16));
     }
-    unpacked_fault(row, place, head.gap, bytes)
+    check_unpacked(row, place, head.gap, bytes)
 }
 
 // A frame row: its fixed fields, and three bytes for each frame.
+#[tactic(auto, unfolding(crate::specs::Rows::framed_denial))]
 pub(crate) fn framed_row<'a>(cursor: &mut Cursor<'a>, row: u16) -> Result<Row<'a>, Denial>
     requires { (cursor.old.place % 8 ≡ 0) × (cursor.old.place < 2 ^ 13 - 256) }
     ensures plate { cursor.new.plate.now ≡ cursor.old.plate.now }
@@ -142,18 +139,12 @@ pub(crate) fn framed_row<'a>(cursor: &mut Cursor<'a>, row: u16) -> Result<Row<'a
         ≡ cursor.old.place + framed_bits cursor.old.plate.now cursor.old.place }
 {
     let start = cursor.place as u16;
-    if let Some(denial) = cursor.lacks(row, 2) {
-        return Err(denial);
-    }
+    cursor.check_left(row, 2)?;
     let head = framed_head(cursor);
     let place = cursor.place;
-    if let Some(denial) = cursor.lacks(row, 3 * head.count) {
-        return Err(denial);
-    }
+    cursor.check_left(row, 3 * head.count)?;
     let frames = cursor.bytes(3 * head.count);
-    if let Some(denial) = framed_content(row, start, head, frames) {
-        return Err(denial);
-    }
+    check_framed_content(row, start, head, frames)?;
     Ok(Row::Frames {
         gap: head.gap,
         frames,

@@ -7,9 +7,9 @@ ghost use Rattle.denial.specs.Checks.{unless};
 ghost use Rattle.plate.specs.Plans.{counts_fault, header_bytes, bytes_of_frame, counted_bytes, framed_bytes};
 ghost use Rattle.plate.specs.Writing.{put_at, room_fault, counted_front, framed_front, left, Then, ReadsCounted, ReadsFramed};
 
-use super::faults::{counted_fault, framed_fault};
 use super::frame::Frame;
-use super::reading::counts_fault;
+use super::reading::check_counts;
+use super::rules::{check_frames, check_miss_counted};
 use denial::{Denial, Rule};
 
 // The two bytes of a header.
@@ -96,16 +96,29 @@ fn put_row(out: &mut [u8], at: usize, front: &[u8], rest: &[u8])
     fill(&mut out[at..end], front, rest);
 }
 
-// The refusal of a buffer that has no `size` bytes from `at` on.
-fn room_fault(len: usize, at: usize, size: usize) -> Option<Denial>
+// A buffer of `len` bytes has `size` bytes from `at` on.
+fn check_room(len: usize, at: usize, size: usize) -> Result<(), Denial>
     requires { (size ≤ 26) × (len < 2 ^ 63) }
-    ensures { result ≡ room_fault len at size }
+    ensures { result ≡ unless (room_fault len at size) tt }
 {
     let end = at.saturating_add(size);
     if len < end {
-        return Some(Rule::Room.denies(end.min(65535) as u16, 0));
+        return Err(Rule::Room.denies(end.min(65535) as u16, 0));
     }
-    None
+    Ok(())
+}
+
+// Writes a row from byte `at` on, where there is room: the byte after it.
+fn write_row(out: &mut [u8], at: usize, front: &[u8], rest: &[u8]) -> Result<usize, Denial>
+    requires { length front.now + length rest.now ≤ 26 }
+    ensures result { result ≡ unless (room_fault (length out.old) at (length front.now + length rest.now))
+        (at + (length front.now + length rest.now)) }
+    ensures out { out.new ≡ left result out.old at (front.now ++ rest.now) }
+{
+    let size = front.len() + rest.len();
+    check_room(out.len(), at, size)?;
+    put_row(out, at, front, rest);
+    Ok(at + size)
 }
 
 // Writes the header of a plate with so many rows of each kind: the byte after it, or 3 or 8.
@@ -113,14 +126,8 @@ pub fn write_header(out: &mut [u8], counted: u8, framed: u8) -> Result<usize, De
     ensures result { result ≡ unless (option_or (counts_fault counted framed) (room_fault (length out.old) 0 2)) 2 }
     ensures out { out.new ≡ left result out.old 0 (header_bytes counted framed) }
 {
-    if let Some(denial) = counts_fault(counted, framed) {
-        return Err(denial);
-    }
-    if let Some(denial) = room_fault(out.len(), 0, 2) {
-        return Err(denial);
-    }
-    put_row(out, 0, &header_front(counted, framed), &[]);
-    Ok(2)
+    check_counts(counted, framed)?;
+    write_row(out, 0, &header_front(counted, framed), &[])
 }
 
 // Writes a miss-counted row from byte `at` on: the byte after it, or its fault as if it stood alone, or 8.
@@ -136,15 +143,8 @@ pub fn write_miss_counted(
     ensures out { out.new ≡ left result out.old at (counted_bytes (record { gap = gap; budget = budget; ranks = ranks.now })) }
     ensures back { Then result (ReadsCounted out.new at (record { gap = gap; budget = budget; ranks = ranks.now })) }
 {
-    if let Some(denial) = counted_fault(0, 0, gap, budget, ranks) {
-        return Err(denial);
-    }
-    let size = 4 + ranks.len();
-    if let Some(denial) = room_fault(out.len(), at, size) {
-        return Err(denial);
-    }
-    put_row(out, at, &counted_front(gap, budget, ranks.len()), ranks);
-    Ok(at + size)
+    check_miss_counted(gap, budget, ranks)?;
+    write_row(out, at, &counted_front(gap, budget, ranks.len()), ranks)
 }
 
 // Writes a frame row from byte `at` on: the byte after it, or its fault as if it stood alone, or 8.
@@ -154,19 +154,12 @@ pub fn write_frames(out: &mut [u8], at: usize, gap: u16, frames: &[Frame]) -> Re
     ensures out { out.new ≡ left result out.old at (framed_bytes (record { gap = gap; frames = frames.now })) }
     ensures back { Then result (ReadsFramed out.new at (record { gap = gap; frames = frames.now })) }
 {
-    if let Some(denial) = framed_fault(0, 0, gap, frames) {
-        return Err(denial);
-    }
-    let size = 2 + 3 * frames.len();
-    if let Some(denial) = room_fault(out.len(), at, size) {
-        return Err(denial);
-    }
+    check_frames(gap, frames)?;
     let bytes = pack(frames);
-    put_row(
+    write_row(
         out,
         at,
         &framed_front(gap, frames.len()),
         &bytes[0..3 * frames.len()],
-    );
-    Ok(at + size)
+    )
 }
