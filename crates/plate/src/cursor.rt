@@ -1,9 +1,10 @@
 // A plate and a bit place in it, moved on by reading.
-ghost use Rattle.std.specs.Prelude.{◌≡◌, ℕ, ◌+◌, ◌-◌, ◌*◌, ◌/◌, ◌%◌, ◌^◌, ◌<◌, ◌≤◌, length, take, drop, OnOk};
+ghost use Rattle.std.specs.Prelude.{◌≡◌, ℕ, ◌+◌, ◌-◌, ◌*◌, ◌/◌, ◌%◌, ◌^◌, ◌<◌, ◌≤◌, length, take, drop, true, Some, None, is_ok, OnOk, MatchResult};
 ghost use Rattle.denial.specs.Checks.{unless};
 ghost use Rattle.plate.specs.Bits.{field};
 ghost use Rattle.plate.specs.Rows.{short_fault};
 
+use super::start::RowStart;
 use denial::{Denial, Rule};
 
 #[derive(Clone, Copy)]
@@ -41,7 +42,18 @@ impl<'a> Cursor<'a> {
             + within_byte(self.plate[at + 1], 0, low)
     }
 
-    // The plate has n bytes more.
+    // Where row number `row` starts, if it is the next.
+    pub(crate) fn row_start(&self, row: u16) -> RowStart
+        requires { self.now.place < 2 ^ 13 }
+        ensures { (result.row ≡ row) × (result.place ≡ self.now.place) }
+    {
+        RowStart {
+            row,
+            place: self.place as u16,
+        }
+    }
+
+    // The plate has n bytes more of a row.
     pub(crate) fn check_left(&self, row: u16, n: usize) -> Result<(), Denial>
         requires { (self.now.place < 2 ^ 13) × (n < 2 ^ 8) }
         ensures value { result ≡ unless (short_fault self.now.plate.now row (self.now.place / 8 + n)) tt }
@@ -53,17 +65,19 @@ impl<'a> Cursor<'a> {
         Ok(())
     }
 
-    // The next n bytes.
-    pub(crate) fn bytes(&mut self, n: usize) -> &'a [u8]
-        requires aligned { self.old.place % 8 ≡ 0 }
-        requires within { (self.old.place / 8 + n ≤ length self.old.plate.now) × ((self.old.place < 2 ^ 32) × (n < 2 ^ 32)) }
+    // The next n bytes of a row.
+    pub(crate) fn bytes(&mut self, row: u16, n: usize) -> Result<&'a [u8], Denial>
+        requires { (self.old.place % 8 ≡ 0) × ((self.old.place < 2 ^ 13) × (n < 2 ^ 8)) }
         ensures plate { self.new.plate.now ≡ self.old.plate.now }
-        ensures value { result.now ≡ take n (drop (self.old.place / 8) self.old.plate.now) }
-        ensures len { length result.now ≡ n }
-        ensures place { self.new.place ≡ self.old.place + 8 * n }
+        ensures result { MatchResult result
+            (λ bytes. (short_fault self.old.plate.now row (self.old.place / 8 + n) ≡ None) × (length bytes.now ≡ n)
+            × (bytes.now ≡ take n (drop (self.old.place / 8) self.old.plate.now)))
+            (λ d. short_fault self.old.plate.now row (self.old.place / 8 + n) ≡ Some d) }
+        ensures place { is_ok result ≡ true → self.new.place ≡ self.old.place + 8 * n }
     {
+        self.check_left(row, n)?;
         let at = self.place / 8;
         self.place += 8 * n;
-        &self.plate[at..at + n]
+        Ok(&self.plate[at..at + n])
     }
 }

@@ -5,15 +5,17 @@ ghost use Rattle.find.specs.First.{first};
 ghost use Rattle.plate.specs.Faults.{frame_at, spare_fault, bad_gap, bad_budget, bad_classes, bad_rank, no_rank, counted_fault, framed_fault};
 
 use super::frame::Frame;
+use super::start::RowStart;
 use denial::{Denial, Rule};
 use find::first_of;
 
-// A spare field is zero.
-pub(crate) fn check_spare(row: u16, place: u16, spare: u16) -> Result<(), Denial>
-    ensures { result ≡ unless (spare_fault row place spare) tt }
+// A spare field, so many bits into its row, is zero.
+pub(crate) fn check_spare(start: RowStart, bits: u16, spare: u16) -> Result<(), Denial>
+    requires { bits < 2 ^ 15 }
+    ensures { result ≡ unless (spare_fault start.row (start.place + bits) spare) tt }
 {
     if spare > 0 {
-        return Err(Rule::Spare.denies(row, place));
+        return Err(start.denies(Rule::Spare, bits));
     }
     Ok(())
 }
@@ -71,48 +73,45 @@ fn first_no_rank(frames: &[Frame]) -> Option<usize>
     frames.iter().position(|frame| no_rank(frame.rank))
 }
 
-// A miss-counted row that stands from bit `place` on keeps its rules.
+// A miss-counted row keeps its rules.
 pub(crate) fn check_counted(
-    row: u16,
-    place: u16,
+    start: RowStart,
     gap: u16,
     budget: u16,
     ranks: &[u8],
 ) -> Result<(), Denial>
-    requires { place < 2 ^ 15 }
-    ensures { result ≡ unless (counted_fault row place gap budget ranks.now) tt }
+    ensures { result ≡ unless (counted_fault start.row start.place gap budget ranks.now) tt }
 {
     if bad_classes(ranks.len()) {
-        return Err(Rule::Ranks.denies(row, place + 32));
+        return Err(start.denies(Rule::Ranks, 32));
     }
     if bad_gap(gap) {
-        return Err(Rule::Times.denies(row, place));
+        return Err(start.denies(Rule::Times, 0));
     }
     if bad_budget(gap, budget) {
-        return Err(Rule::Times.denies(row, place + 12));
+        return Err(start.denies(Rule::Times, 12));
     }
     match first_bad_rank(ranks) {
-        Some(i) => Err(Rule::Ranks.denies(row, place + 32 + 8 * i as u16)),
+        Some(i) => Err(start.denies(Rule::Ranks, 32 + 8 * i as u16)),
         None => Ok(()),
     }
 }
 
-// A frame row that stands from bit `place` on keeps its rules.
-pub(crate) fn check_framed(row: u16, place: u16, gap: u16, frames: &[Frame]) -> Result<(), Denial>
-    requires { place < 2 ^ 15 }
-    ensures { result ≡ unless (framed_fault row place gap frames.now) tt }
+// A frame row keeps its rules.
+pub(crate) fn check_framed(start: RowStart, gap: u16, frames: &[Frame]) -> Result<(), Denial>
+    ensures { result ≡ unless (framed_fault start.row start.place gap frames.now) tt }
 {
     if bad_classes(frames.len()) {
-        return Err(Rule::Ranks.denies(row, place + 28));
+        return Err(start.denies(Rule::Ranks, 28));
     }
     if bad_gap(gap) {
-        return Err(Rule::Times.denies(row, place));
+        return Err(start.denies(Rule::Times, 0));
     }
     if let Some(i) = first_bad_budget(gap, frames) {
-        return Err(Rule::Times.denies(row, place + 16 + 24 * i as u16));
+        return Err(start.denies(Rule::Times, 16 + 24 * i as u16));
     }
     match first_no_rank(frames) {
-        Some(i) => Err(Rule::Ranks.denies(row, place + 28 + 24 * i as u16)),
+        Some(i) => Err(start.denies(Rule::Ranks, 28 + 24 * i as u16)),
         None => Ok(()),
     }
 }
