@@ -6,6 +6,7 @@ ghost use Rattle.plate.specs.Rows.{frames_of, padded, spare_frame};
 
 use super::cursor::Cursor;
 use find::first_of;
+use std::array;
 
 // The budget and the rank of one class.
 #[derive(Clone, Copy, PartialEq, Eq, Debug)]
@@ -52,15 +53,18 @@ pub(crate) fn first_spare(bytes: &[u8]) -> Option<usize>
     first_of(bytes.len() / 3, |i| spare(bytes, i) > 0)
 }
 
+// Frame i, and a frame of zeros past the last.
+fn frame_or_zeros(bytes: &[u8], i: u16) -> Frame
+    ensures { result ≡ frame_at (frames_of bytes.now) i }
+{
+    nth_frame(bytes, i).unwrap_or(Frame { budget: 0, rank: 0 })
+}
+
 // The first eight frames of frame bytes, and frames of zeros past the last.
 pub fn unpack(bytes: &[u8]) -> [Frame; 8]
     ensures { result ≡ padded (frames_of bytes.now) }
 {
-    let mut frames = [Frame { budget: 0, rank: 0 }; 8];
-    for i in 0..(bytes.len() / 3).min(8) {
-        frames[i] = unpack_one(bytes, i);
-    }
-    frames
+    array::from_fn(|i| frame_or_zeros(bytes, i as u16))
 }
 
 // Frame i of the frame bytes of a row, i from 0; none past the last.

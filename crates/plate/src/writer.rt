@@ -63,8 +63,8 @@ fn pack(frames: &[Frame]) -> [u8; 24]
     ensures { take (3 * length frames.now) result ≡ flat_map bytes_of_frame frames.now }
 {
     let mut bytes = [0; 24];
-    for i in 0..frames.len() {
-        bytes[3 * i..3 * i + 3].copy_from_slice(&pack_one(frames[i]));
+    for (i, frame) in frames.iter().enumerate() {
+        bytes[3 * i..3 * i + 3].copy_from_slice(&pack_one(*frame));
     }
     bytes
 }
@@ -79,46 +79,28 @@ fn fill(part: &mut [u8], front: &[u8], rest: &[u8])
     part[n..].copy_from_slice(rest);
 }
 
-// The byte after a row of so many fixed bytes and so many more.
-fn row_end(at: usize, front: usize, rest: usize) -> usize
-    requires { at + (front + rest) < 2 ^ 64 }
-    ensures { result ≡ at + (front + rest) }
-{
-    at + front + rest
-}
-
-// Fills a row at its place, and leaves all other bytes as they were.
-fn put_row(out: &mut [u8], at: usize, front: &[u8], rest: &[u8])
-    requires { at + (length front.now + length rest.now) ≤ length out.old }
-    ensures { out.new ≡ put_at out.old at (front.now ++ rest.now) }
-{
-    let end = row_end(at, front.len(), rest.len());
-    fill(&mut out[at..end], front, rest);
-}
-
-// A buffer of `len` bytes has `size` bytes from `at` on.
-fn check_room(len: usize, at: usize, size: usize) -> Result<(), Denial>
+// The byte after `size` bytes from `at` on, in a buffer of `len` bytes that has them.
+fn end_within(len: usize, at: usize, size: usize) -> Result<usize, Denial>
     requires { (size ≤ 26) × (len < 2 ^ 63) }
-    ensures { result ≡ unless (room_fault len at size) tt }
+    ensures { result ≡ unless (room_fault len at size) (at + size) }
 {
     let end = at.saturating_add(size);
     if len < end {
         return Err(Rule::Room.denies(end.min(65535) as u16, 0));
     }
-    Ok(())
+    Ok(end)
 }
 
-// Writes a row from byte `at` on, where there is room: the byte after it.
+// Writes a row from byte `at` on, and leaves all other bytes as they were: the byte after it.
 fn write_row(out: &mut [u8], at: usize, front: &[u8], rest: &[u8]) -> Result<usize, Denial>
     requires { length front.now + length rest.now ≤ 26 }
     ensures result { result ≡ unless (room_fault (length out.old) at (length front.now + length rest.now))
         (at + (length front.now + length rest.now)) }
     ensures out { out.new ≡ left result out.old at (front.now ++ rest.now) }
 {
-    let size = front.len() + rest.len();
-    check_room(out.len(), at, size)?;
-    put_row(out, at, front, rest);
-    Ok(at + size)
+    let end = end_within(out.len(), at, front.len() + rest.len())?;
+    fill(&mut out[at..end], front, rest);
+    Ok(end)
 }
 
 // Writes the header of a plate with so many rows of each kind: the byte after it, or 3 or 8.
