@@ -35,11 +35,8 @@ returns c =
     let long : 2 ≤ length bs = search rules in
     let whole = header_whole bs long (c.type_inv.plate 0).fits (c.type_inv.plate 1).fits in
     let counts = header_counts bs (c.type_inv.plate 0).fits (c.type_inv.plate 1).fits in
-    let few = c.in_ok-check_counts.ensures.few in
     let from = begins bs long in (
       rw (whole, eq-eqb (get_or bs 0 0 / 16) 1 c.if-first-ne1.false, (unless_ok (counts_fault (get_or bs 0 0 % 16 * 4 + get_or bs 1 0 / 64) (get_or bs 1 0 % 64)) tt tt c.in_ok-check_counts.ensures.value).0),
       refl,
       rw (from, counts.1, counts.2),
-      few.0,
-      few.1,
     )
