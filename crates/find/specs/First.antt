@@ -12,6 +12,10 @@ unfoldable pub first_pair : (ℕ → ℕ → Bool) → ℕ → (ℕ → ℕ) →
 first_pair test zero limit = None
 first_pair test (suc m) limit = option_or (first_pair test m limit) (option_map (λ j. (m, j)) (first (test m) (limit m)))
 
+-- whatever a closure answers at an index below n, is what the test says
+abbrev pub Agrees : (ℕ → Bool → Type 0) → ℕ → (ℕ → Bool) → Type 0
+Agrees answers n test = (i : ℕ) (b : Bool) → i < n → answers i b → b ≡ test i
+
 -- What a search says: nothing below n passes, or i does and nothing below it.
 abbrev pub Searched : (ℕ → Bool) → ℕ → Option ℕ → Type 0
 Searched test n o =

@@ -2,30 +2,17 @@
 #![tactic(auto)]
 
 ghost use Rattle.std.specs.Prelude.{◌≡◌, ℕ, ◌<◌, Bool, IfSome};
-ghost use Rattle.find.specs.First.{first, Searched};
+ghost use Rattle.find.specs.First.{first, Agrees, Searched};
 
-// Items numbered from 0, and a test of them.
-pub trait Items {
-    ghost count: { Self → ℕ };
-
-    ghost test: { Self → ℕ → Bool };
-
-    fn count(&self) -> usize
-        ensures { result ≡ count self.now };
-
-    fn passes(&self, i: usize) -> bool
-        requires { i < count self.now }
-        ensures { result ≡ test self.now i };
-}
-
-// The first item that passes.
-pub fn first_of<T: Items>(items: &T) -> Option<usize>
-    ensures within { IfSome result (λ i. i < T.Items.count items.now) }
-    ensures value { result ≡ first (T.Items.test items.now) (T.Items.count items.now) }
-    ensures says { Searched (T.Items.test items.now) (T.Items.count items.now) result }
+// The first index below `count` that passes.
+pub fn first_of<F: Fn(usize) -> bool>(count: usize, passes: F) -> Option<usize>
+    requires { (i : ℕ) → i < count → F.pre passes i }
+    ensures within { IfSome result (λ i. i < count) }
+    ensures value { (test : ℕ → Bool) → Agrees (F.post passes) count test → result ≡ first test count }
+    ensures says { (test : ℕ → Bool) → Agrees (F.post passes) count test → Searched test count result }
 {
-    for i in 0..items.count() {
-        if items.passes(i) {
+    for i in 0..count {
+        if passes(i) {
             return Some(i);
         }
     }

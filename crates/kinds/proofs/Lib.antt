@@ -1,3 +1,4 @@
 pub mod Attained
 pub mod Counting
 pub mod Listed
+mod Refused

@@ -9,7 +9,7 @@ use crate::rows::MissCountedRow;
 use crate::steps::{above, next_class};
 use denial::{Denial, Rule};
 use group::{Outcome, Terms};
-use plate::rules::miss_counted_fault;
+use plate::rules::check_miss_counted;
 
 // Of so many jobs in a row, the most that can be in the top `n` of `classes` classes.
 fn most_in_top(classes: u32, n: u32, jobs: u32) -> u32
@@ -29,7 +29,7 @@ impl MissCountedRow {
             return Some(Rule::Ranks.denies(0, 32));
         }
         let count = self.misses as usize + 1;
-        miss_counted_fault(self.gap, self.budget, &self.ranks[0..count])
+        check_miss_counted(self.gap, self.budget, &self.ranks[0..count]).err()
     }
 
     // The terms of a class that there is.

@@ -9,7 +9,7 @@ use crate::rows::FrameRow;
 use crate::steps::{above, next_class};
 use denial::{Denial, Rule};
 use group::{Outcome, Terms};
-use plate::rules::frames_fault;
+use plate::rules::check_frames;
 
 // What so many jobs ask for: whole turns of a cycle of `count` frames, and the rest.
 fn turns_and_rest(jobs: u16, count: u16, turn: u32, rest: u32) -> u32
@@ -30,7 +30,7 @@ impl FrameRow {
             return Some(Rule::Ranks.denies(0, 28));
         }
         let count = self.count as usize;
-        frames_fault(self.gap, &self.frames[0..count])
+        check_frames(self.gap, &self.frames[0..count]).err()
     }
 
     // The terms of a frame that there is.

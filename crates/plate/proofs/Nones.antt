@@ -1,9 +1,9 @@
 -- What it means that nothing is at fault.
-use Rattle.std.proofs.Common.{◌≡◌, ℕ, zero, suc, ◌<◌, Bool, true, false, cond, ◌||◌, eqb, ltb, IfNone, Some, None, Option, refl, inl, inr, arith}
+use Rattle.std.proofs.Common.{◌≡◌, ℕ, zero, suc, ◌<◌, Bool, true, false, cond, ◌||◌, eqb, ltb, OnOk, Some, None, Ok, Err, Option, Result, refl, inl, inr, arith}
 use Rattle.std.specs.Option.{option_or, option_map}
 use Rattle.std.proofs.lemmas.Bool.{cases_order, or_parts, or_from, ltb-false, eqb-false, le-ltb, ne_eqb}
 use Rattle.denial.specs.declared.Denial.{Denial}
-use Rattle.denial.specs.Checks.{when}
+use Rattle.denial.specs.Checks.{when, unless}
 use Rattle.find.specs.First.{first}
 use Rattle.plate.specs.Plans.{Within}
 
@@ -50,7 +50,17 @@ ranged n high e =
 pub in_range : (n high : ℕ) → Within 1 high n → (eqb n 0 || ltb high n) ≡ false
 in_range n high w = or_from (eqb n 0) (ltb high n) (ne_eqb n 0 (omega arith)) (le-ltb high n w.1)
 
+-- a value came, so there was no fault
+pub unless_ok : {A : Type 0} (o : Option Denial) (x h : A) → Ok h ≡ unless o x → (o ≡ None) × (h ≡ x)
+unless_ok None x h e = (refl, cc)
+unless_ok (Some d) x h e = let z : ◌≡◌ {A = ℕ} 0 1 = cc in absurd (omega arith)
+
+-- a fault came, so there was one
+pub unless_err : {A : Type 0} (o : Option Denial) (x : A) (d : Denial) → Err d ≡ unless o x → o ≡ Some d
+unless_err None x d e = let z : ◌≡◌ {A = ℕ} 0 1 = cc in absurd (omega arith)
+unless_err (Some c) x d e = cc
+
 -- what follows where there is no fault
-pub unless_some : (o : Option Denial) (P : Type 0) → (o ≡ None → P) → IfNone o P
-unless_some None P h = h refl
-unless_some (Some d) P h = tt
+pub unless_fault : {A : Type 0} (o : Option Denial) (x : A) (r : Result A Denial) (P : Type 0) → r ≡ unless o x → (o ≡ None → P) → OnOk r P
+unless_fault o x (Ok h) P e f = f (unless_ok o x h e).0
+unless_fault o x (Err d) P e f = tt

@@ -7,7 +7,7 @@ use Rattle.denial.specs.Checks.{unless}
 use Rattle.plate.specs.Plans.{Plan, with_counted, with_framed, framed_from, counted_from}
 use Rattle.plate.specs.Reading.Handed.{counted, framed}
 use Rattle.plate.specs.Reading.{State, Handed, counted_here, framed_here, row_denial, next_row, after_row, next_denial, opened, fault_of, rest_of}
-use Rattle.plate.proofs.Steps.{unless_ok, unless_err}
+use Rattle.plate.proofs.Nones.{unless_ok, unless_err}
 
 fault_counted : (c : Counted) (r : Result Plan Denial) → fault_of (with_counted c r) ≡ fault_of r
 fault_counted c (Ok plan) = refl

@@ -10,7 +10,7 @@ use Rattle.denial.specs.Checks.{past}
 use Rattle.plate.specs.Plans.{Plan, with_counted, with_framed, extra_fault, framed_from, counted_from, counts_fault, header_denial, header_bytes, decode, Bytes, SoundCounted, SoundFramed, counted_bytes, framed_bytes, encode, ReadIsWritten, WrittenIsRead, FewBytes}
 use Rattle.std.proofs.lemmas.Nat.{div-mul-add, mod-mul-add}
 use Rattle.plate.proofs.Fields.{header_edition, header_counted, header_framed}
-use Rattle.plate.proofs.Steps.{unless_ok}
+use Rattle.plate.proofs.Nones.{unless_ok}
 use Rattle.plate.proofs.Nones.{or_none, when_none}
 use Rattle.plate.proofs.Counteds
 use Rattle.plate.proofs.Frameds

@@ -7,7 +7,7 @@ use Rattle.plate.specs.declared.reader.Counts.{Counts}
 use Rattle.denial.specs.Checks.{unless}
 use Rattle.plate.specs.Reading.{State, fault_of, rest_of, first_state, opened, open_denial}
 use Rattle.plate.specs.Readers.{to_come}
-use Rattle.plate.proofs.Steps.{unless_ok, unless_err}
+use Rattle.plate.proofs.Nones.{unless_ok, unless_err}
 use Rattle.plate.proofs.Trips.{read_is_written, written_is_read, few_bytes, read_counts}
 
 -- a plate that decodes to a fault

@@ -1,8 +1,10 @@
 // A plate and a bit place in it, moved on by reading.
-ghost use Rattle.std.specs.Prelude.{◌≡◌, ℕ, ◌+◌, ◌-◌, ◌*◌, ◌/◌, ◌%◌, ◌^◌, ◌<◌, ◌≤◌, length, take, drop, IfNone};
+ghost use Rattle.std.specs.Prelude.{◌≡◌, ℕ, ◌+◌, ◌-◌, ◌*◌, ◌/◌, ◌%◌, ◌^◌, ◌<◌, ◌≤◌, length, take, drop, true, Some, None, is_ok, OnOk, MatchResult};
+ghost use Rattle.denial.specs.Checks.{unless};
 ghost use Rattle.plate.specs.Bits.{field};
 ghost use Rattle.plate.specs.Rows.{short_fault};
 
+use super::start::RowStart;
 use denial::{Denial, Rule};
 
 #[derive(Clone, Copy)]
@@ -40,29 +42,42 @@ impl<'a> Cursor<'a> {
             + within_byte(self.plate[at + 1], 0, low)
     }
 
-    // The refusal of a plate that has no n bytes more.
-    pub(crate) fn lacks(&self, row: u16, n: usize) -> Option<Denial>
-        requires { (self.now.place < 2 ^ 13) × (n < 2 ^ 8) }
-        ensures value { result ≡ short_fault self.now.plate.now row (self.now.place / 8 + n) }
-        ensures enough { IfNone result (self.now.place / 8 + n ≤ length self.now.plate.now) }
+    // Where row number `row` starts, if it is the next.
+    pub(crate) fn row_start(&self, row: u16) -> RowStart
+        requires { self.now.place < 2 ^ 13 }
+        ensures { (result.row ≡ row) × (result.place ≡ self.now.place) }
     {
-        if self.plate.len() < self.place / 8 + n {
-            return Some(Rule::Short.denies(row, 8 * self.plate.len() as u16));
+        RowStart {
+            row,
+            place: self.place as u16,
         }
-        None
     }
 
-    // The next n bytes.
-    pub(crate) fn bytes(&mut self, n: usize) -> &'a [u8]
-        requires aligned { self.old.place % 8 ≡ 0 }
-        requires within { (self.old.place / 8 + n ≤ length self.old.plate.now) × ((self.old.place < 2 ^ 32) × (n < 2 ^ 32)) }
-        ensures plate { self.new.plate.now ≡ self.old.plate.now }
-        ensures value { result.now ≡ take n (drop (self.old.place / 8) self.old.plate.now) }
-        ensures len { length result.now ≡ n }
-        ensures place { self.new.place ≡ self.old.place + 8 * n }
+    // The plate has n bytes more of a row.
+    pub(crate) fn check_left(&self, row: u16, n: usize) -> Result<(), Denial>
+        requires { (self.now.place < 2 ^ 13) × (n < 2 ^ 8) }
+        ensures value { result ≡ unless (short_fault self.now.plate.now row (self.now.place / 8 + n)) tt }
+        ensures enough { OnOk result (self.now.place / 8 + n ≤ length self.now.plate.now) }
     {
+        if self.plate.len() < self.place / 8 + n {
+            return Err(Rule::Short.denies(row, 8 * self.plate.len() as u16));
+        }
+        Ok(())
+    }
+
+    // The next n bytes of a row.
+    pub(crate) fn bytes(&mut self, row: u16, n: usize) -> Result<&'a [u8], Denial>
+        requires { (self.old.place % 8 ≡ 0) × ((self.old.place < 2 ^ 13) × (n < 2 ^ 8)) }
+        ensures plate { self.new.plate.now ≡ self.old.plate.now }
+        ensures result { MatchResult result
+            (λ bytes. (short_fault self.old.plate.now row (self.old.place / 8 + n) ≡ None) × (length bytes.now ≡ n)
+            × (bytes.now ≡ take n (drop (self.old.place / 8) self.old.plate.now)))
+            (λ d. short_fault self.old.plate.now row (self.old.place / 8 + n) ≡ Some d) }
+        ensures place { is_ok result ≡ true → self.new.place ≡ self.old.place + 8 * n }
+    {
+        self.check_left(row, n)?;
         let at = self.place / 8;
         self.place += 8 * n;
-        &self.plate[at..at + n]
+        Ok(&self.plate[at..at + n])
     }
 }

@@ -1,20 +1,23 @@
-// The first fault of a row, by its rules.
-ghost use Rattle.std.specs.Prelude.{◌≡◌, ℕ, ◌+◌, ◌-◌, ◌*◌, ◌/◌, ◌%◌, ◌^◌, ◌<◌, ◌≤◌, ◌||◌, length};
+// The rules of a row: each function refuses by the first one that is broken.
+ghost use Rattle.std.specs.Prelude.{◌≡◌, ℕ, ◌+◌, ◌-◌, ◌*◌, ◌/◌, ◌%◌, ◌^◌, ◌<◌, ◌≤◌, ◌||◌, length, IfSome};
+ghost use Rattle.denial.specs.Checks.{unless};
 ghost use Rattle.find.specs.First.{first};
 ghost use Rattle.plate.specs.Faults.{frame_at, spare_fault, bad_gap, bad_budget, bad_classes, bad_rank, no_rank, counted_fault, framed_fault};
 
 use super::frame::Frame;
+use super::start::RowStart;
 use denial::{Denial, Rule};
-use find::{Items, first_of};
+use find::first_of;
 
-// A spare field is zero.
-pub(crate) fn spare_fault(row: u16, place: u16, spare: u16) -> Option<Denial>
-    ensures { result ≡ spare_fault row place spare }
+// A spare field, so many bits into its row, is zero.
+pub(crate) fn check_spare(start: RowStart, bits: u16, spare: u16) -> Result<(), Denial>
+    requires { bits < 2 ^ 15 }
+    ensures { result ≡ unless (spare_fault start.row (start.place + bits) spare) tt }
 {
     if spare > 0 {
-        return Some(Rule::Spare.denies(row, place));
+        return Err(start.denies(Rule::Spare, bits));
     }
-    None
+    Ok(())
 }
 
 fn bad_gap(gap: u16) -> bool
@@ -41,105 +44,74 @@ fn no_rank(rank: u8) -> bool
     rank == 0
 }
 
-// The ranks of a miss-counted row: one fails that is 0, or lower than the rank before it.
-#[derive(Drop)]
-struct RankBytes<'a>(&'a [u8]);
-
-impl Items for RankBytes<'_> {
-    ghost count = { λ s. length s.0.now };
-
-    ghost test = { λ s. bad_rank s.0.now };
-
-    fn count(&self) -> usize {
-        self.0.len()
-    }
-
-    fn passes(&self, i: usize) -> bool {
-        no_rank(self.0[i]) || self.0[i] < self.0[i.saturating_sub(1)]
-    }
+// The first rank of a miss-counted row that is 0, or lower than the rank before it.
+fn first_bad_rank(ranks: &[u8]) -> Option<usize>
+    ensures within { IfSome result (λ i. i < length ranks.now) }
+    ensures value { result ≡ first (bad_rank ranks.now) (length ranks.now) }
+{
+    first_of(
+        ranks.len(),
+        |i| no_rank(ranks[i]) || ranks[i] < ranks[i.saturating_sub(1)],
+    )
 }
 
-// The budgets of a frame row, against its gap.
-#[derive(Drop)]
-struct Budgets<'a> {
-    gap: u16,
-    frames: &'a [Frame],
+// The first budget of a frame row that its gap forbids.
+fn first_bad_budget(gap: u16, frames: &[Frame]) -> Option<usize>
+    ensures within { IfSome result (λ i. i < length frames.now) }
+    ensures value { result ≡ first (λ i. bad_budget gap (frame_at frames.now i).budget) (length frames.now) }
+{
+    frames
+        .iter()
+        .position(|frame| bad_budget(gap, frame.budget))
 }
 
-impl Items for Budgets<'_> {
-    ghost count = { λ s. length s.frames.now };
-
-    ghost test = { λ s i. bad_budget s.gap (frame_at s.frames.now i).budget };
-
-    fn count(&self) -> usize {
-        self.frames.len()
-    }
-
-    fn passes(&self, i: usize) -> bool {
-        bad_budget(self.gap, self.frames[i].budget)
-    }
+// The first rank of a frame row that is 0.
+fn first_no_rank(frames: &[Frame]) -> Option<usize>
+    ensures within { IfSome result (λ i. i < length frames.now) }
+    ensures value { result ≡ first (λ i. no_rank (frame_at frames.now i).rank) (length frames.now) }
+{
+    frames.iter().position(|frame| no_rank(frame.rank))
 }
 
-// The ranks of a frame row.
-#[derive(Drop)]
-struct FrameRanks<'a>(&'a [Frame]);
-
-impl Items for FrameRanks<'_> {
-    ghost count = { λ s. length s.0.now };
-
-    ghost test = { λ s i. no_rank (frame_at s.0.now i).rank };
-
-    fn count(&self) -> usize {
-        self.0.len()
-    }
-
-    fn passes(&self, i: usize) -> bool {
-        no_rank(self.0[i].rank)
-    }
-}
-
-// The first fault of a miss-counted row that stands from bit `place` on.
-pub(crate) fn counted_fault(
-    row: u16,
-    place: u16,
+// A miss-counted row keeps its rules.
+pub(crate) fn check_counted(
+    start: RowStart,
     gap: u16,
     budget: u16,
     ranks: &[u8],
-) -> Option<Denial>
-    requires { place < 2 ^ 15 }
-    ensures { result ≡ counted_fault row place gap budget ranks.now }
+) -> Result<(), Denial>
+    ensures { result ≡ unless (counted_fault start.row start.place gap budget ranks.now) tt }
 {
     if bad_classes(ranks.len()) {
-        return Some(Rule::Ranks.denies(row, place + 32));
+        return Err(start.denies(Rule::Ranks, 32));
     }
     if bad_gap(gap) {
-        return Some(Rule::Times.denies(row, place));
+        return Err(start.denies(Rule::Times, 0));
     }
     if bad_budget(gap, budget) {
-        return Some(Rule::Times.denies(row, place + 12));
+        return Err(start.denies(Rule::Times, 12));
     }
-    match first_of(&RankBytes(ranks)) {
-        Some(i) => Some(Rule::Ranks.denies(row, place + 32 + 8 * i as u16)),
-        None => None,
+    match first_bad_rank(ranks) {
+        Some(i) => Err(start.denies(Rule::Ranks, 32 + 8 * i as u16)),
+        None => Ok(()),
     }
 }
 
-// The first fault of a frame row that stands from bit `place` on.
-pub(crate) fn framed_fault(row: u16, place: u16, gap: u16, frames: &[Frame]) -> Option<Denial>
-    requires { place < 2 ^ 15 }
-    ensures { result ≡ framed_fault row place gap frames.now }
+// A frame row keeps its rules.
+pub(crate) fn check_framed(start: RowStart, gap: u16, frames: &[Frame]) -> Result<(), Denial>
+    ensures { result ≡ unless (framed_fault start.row start.place gap frames.now) tt }
 {
     if bad_classes(frames.len()) {
-        return Some(Rule::Ranks.denies(row, place + 28));
+        return Err(start.denies(Rule::Ranks, 28));
     }
     if bad_gap(gap) {
-        return Some(Rule::Times.denies(row, place));
+        return Err(start.denies(Rule::Times, 0));
     }
-    if let Some(i) = first_of(&Budgets { gap, frames }) {
-        return Some(Rule::Times.denies(row, place + 16 + 24 * i as u16));
+    if let Some(i) = first_bad_budget(gap, frames) {
+        return Err(start.denies(Rule::Times, 16 + 24 * i as u16));
     }
-    match first_of(&FrameRanks(frames)) {
-        Some(i) => Some(Rule::Ranks.denies(row, place + 28 + 24 * i as u16)),
-        None => None,
+    match first_no_rank(frames) {
+        Some(i) => Err(start.denies(Rule::Ranks, 28 + 24 * i as u16)),
+        None => Ok(()),
     }
 }

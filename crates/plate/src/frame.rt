@@ -1,11 +1,12 @@
 // Frames: the classes of a frame row, each with its own budget and rank.
-ghost use Rattle.std.specs.Prelude.{◌≡◌, ℕ, ◌+◌, ◌*◌, ◌/◌, ◌^◌, ◌<◌, ◌≤◌, length, IfSome, MatchOption, nat_lt};
+ghost use Rattle.std.specs.Prelude.{◌≡◌, ℕ, ◌+◌, ◌*◌, ◌/◌, ◌^◌, ◌<◌, ◌≤◌, length, IfSome, MatchOption};
 ghost use Rattle.plate.specs.Bits.{field};
 ghost use Rattle.plate.specs.Faults.{frame_at};
 ghost use Rattle.plate.specs.Rows.{frames_of, padded, spare_frame};
 
 use super::cursor::Cursor;
-use find::{Items, first_of};
+use find::first_of;
+use std::array;
 
 // The budget and the rank of one class.
 #[derive(Clone, Copy, PartialEq, Eq, Debug)]
@@ -31,29 +32,16 @@ fn unpack_one(bytes: &[u8], i: usize) -> Frame
     }
 }
 
-// The spare bits of frame bytes: a frame fails where they are not zero.
-#[derive(Drop)]
-struct Spares<'a> {
-    bytes: &'a [u8],
-    ghost few: { length bytes.now ≤ 24 },
-}
-
-impl Items for Spares<'_> {
-    ghost count = { λ s. length s.bytes.now / 3 };
-
-    ghost test = { λ s i. nat_lt 0 (field s.bytes.now (24 * i + 20) 4) };
-
-    fn count(&self) -> usize {
-        self.bytes.len() / 3
-    }
-
-    fn passes(&self, i: usize) -> bool {
-        let mut cursor = Cursor {
-            plate: self.bytes,
-            place: 24 * i + 20,
-        };
-        cursor.field(4) > 0
-    }
+// The spare bits of frame i.
+fn spare(bytes: &[u8], i: usize) -> u16
+    requires { (i < length bytes.now / 3) × (i < 2 ^ 16) }
+    ensures { result ≡ field bytes.now (24 * i + 20) 4 }
+{
+    let mut cursor = Cursor {
+        plate: bytes,
+        place: 24 * i + 20,
+    };
+    cursor.field(4)
 }
 
 // The first frame whose spare bits are not zero.
@@ -62,18 +50,21 @@ pub(crate) fn first_spare(bytes: &[u8]) -> Option<usize>
     ensures within { IfSome result (λ i. i < length bytes.now / 3) }
     ensures value { result ≡ spare_frame bytes.now (length bytes.now / 3) }
 {
-    first_of(&Spares { bytes })
+    first_of(bytes.len() / 3, |i| spare(bytes, i) > 0)
+}
+
+// Frame i, and a frame of zeros past the last.
+fn frame_or_zeros(bytes: &[u8], i: u16) -> Frame
+    ensures { result ≡ frame_at (frames_of bytes.now) i }
+{
+    nth_frame(bytes, i).unwrap_or(Frame { budget: 0, rank: 0 })
 }
 
 // The first eight frames of frame bytes, and frames of zeros past the last.
 pub fn unpack(bytes: &[u8]) -> [Frame; 8]
     ensures { result ≡ padded (frames_of bytes.now) }
 {
-    let mut frames = [Frame { budget: 0, rank: 0 }; 8];
-    for i in 0..(bytes.len() / 3).min(8) {
-        frames[i] = unpack_one(bytes, i);
-    }
-    frames
+    array::from_fn(|i| frame_or_zeros(bytes, i as u16))
 }
 
 // Frame i of the frame bytes of a row, i from 0; none past the last.

@@ -11,4 +11,5 @@ pub mod row;
 mod rows;
 pub mod rules;
 pub mod same;
+mod start;
 pub mod writer;

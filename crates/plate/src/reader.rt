@@ -3,13 +3,19 @@ ghost use Rattle.std.specs.Prelude.{◌≡◌, ◌+◌, ◌*◌, ◌%◌, ◌≤
 
 use super::cursor::Cursor;
 
-// The place of the next row and its number, and how many rows of each kind are to come.
+// The place of the next row and its number, and how many rows of each kind are to come. At bit place 0 the header has not been
+// read yet.
 #[derive(Clone, Copy)]
 pub(crate) struct Position<'a> {
     pub(crate) cursor: Cursor<'a>,
     pub(crate) row: u16,
     pub(crate) counted: u8,
     pub(crate) framed: u8,
+    // Rows begin at a byte; a miss-counted row takes at most 96 bits and a frame row 208.
+    ghost aligned: { cursor.place % 8 ≡ 0 },
+    ghost within: { cursor.place + (96 * counted + 208 * framed) ≤ 4880 },
+    ghost few: { row + (counted + framed) ≤ 32 },
+    ghost counts: { (counted ≤ 16) × (framed ≤ 16) },
 }
 
 // How many rows of each kind there are.
@@ -19,13 +25,8 @@ pub struct Counts {
     pub framed: u8,
 }
 
-// Reads a plate row by row. At bit place 0 the header has not been read yet.
+// Reads a plate row by row.
 #[derive(Drop)]
 pub struct Reader<'a> {
     pub(crate) at: Position<'a>,
-    // Rows begin at a byte; a miss-counted row takes at most 96 bits and a frame row 208.
-    ghost aligned: { at.cursor.place % 8 ≡ 0 },
-    ghost within: { at.cursor.place + (96 * at.counted + 208 * at.framed) ≤ 4880 },
-    ghost few: { at.row + (at.counted + at.framed) ≤ 32 },
-    ghost counts: { (at.counted ≤ 16) × (at.framed ≤ 16) },
 }

@@ -1,5 +1,5 @@
 // Reading a plate row by row.
-ghost use Rattle.std.specs.Prelude.{◌≡◌, ℕ, ◌+◌, ◌-◌, ◌*◌, ◌/◌, ◌%◌, ◌^◌, ◌<◌, ◌≤◌, true, cond, length, IfNone, is_ok, Some, None, MatchResult};
+ghost use Rattle.std.specs.Prelude.{◌≡◌, ℕ, ◌+◌, ◌-◌, ◌*◌, ◌/◌, ◌%◌, ◌^◌, ◌<◌, ◌≤◌, true, cond, length, OnOk, is_ok, Some, None, MatchResult};
 ghost use Rattle.plate.specs.Bits.{field};
 ghost use Rattle.denial.specs.Checks.{unless};
 ghost use Rattle.plate.specs.Plans.{counts_fault, extra_fault, header_denial};
@@ -13,35 +13,34 @@ use super::rows::{counted_row, framed_row};
 use denial::{Denial, Rule};
 
 // Each number of rows is at most 16, and they are not both 0.
-pub(crate) fn counts_fault(counted: u8, framed: u8) -> Option<Denial>
-    ensures value { result ≡ counts_fault counted framed }
-    ensures few { IfNone result ((counted ≤ 16) × (framed ≤ 16)) }
+pub(crate) fn check_counts(counted: u8, framed: u8) -> Result<(), Denial>
+    ensures value { result ≡ unless (counts_fault counted framed) tt }
+    ensures few { OnOk result ((counted ≤ 16) × (framed ≤ 16)) }
 {
     if counted > 16 || (counted == 0 && framed == 0) {
-        return Some(Rule::RowCounts.denies(255, 4));
+        return Err(Rule::RowCounts.denies(255, 4));
     }
     if framed > 16 {
-        return Some(Rule::RowCounts.denies(255, 10));
+        return Err(Rule::RowCounts.denies(255, 10));
     }
-    None
+    Ok(())
 }
 
 // Nothing stands after the last row.
-fn extra_fault(cursor: Cursor) -> Option<Denial>
+fn check_end(cursor: Cursor) -> Result<(), Denial>
     requires { (cursor.place % 8 ≡ 0) × (cursor.place ≤ 4880) }
-    ensures { result ≡ extra_fault cursor.entry.plate.now cursor.entry.place }
+    ensures { result ≡ unless (extra_fault cursor.entry.plate.now cursor.entry.place) tt }
 {
     if cursor.place / 8 < cursor.plate.len() {
-        return Some(Rule::Extra.denies(255, cursor.place as u16));
+        return Err(Rule::Extra.denies(255, cursor.place as u16));
     }
-    None
+    Ok(())
 }
 
 // The header: edition 4 bits, number of miss-counted rows 6, number of frame rows 6. The rest is rows.
 fn header(plate: &[u8]) -> Result<Position<'_>, Denial>
     ensures { MatchResult result
-        (λ at. (header_denial plate.now ≡ None) × (plate_at at ≡ plate.now) × (state_at at ≡ first_state plate.now)
-        × (at.counted ≤ 16) × (at.framed ≤ 16))
+        (λ at. (header_denial plate.now ≡ None) × (plate_at at ≡ plate.now) × (state_at at ≡ first_state plate.now))
         (λ d. header_denial plate.now ≡ Some d) }
 {
     let [first, second, rest @ ..] = plate else {
@@ -52,9 +51,7 @@ fn header(plate: &[u8]) -> Result<Position<'_>, Denial>
     }
     let counted = *first % 16 * 4 + *second / 64;
     let framed = *second % 64;
-    if let Some(denial) = counts_fault(counted, framed) {
-        return Err(denial);
-    }
+    check_counts(counted, framed)?;
     let cursor = Cursor {
         plate,
         place: 8 * (plate.len() - rest.len()),
@@ -67,58 +64,55 @@ fn header(plate: &[u8]) -> Result<Position<'_>, Denial>
     })
 }
 
-// Past the header, which is read where nothing was read yet.
-fn opened<'a>(at: Position<'a>) -> Result<Position<'a>, Denial>
-    requires { Kept (state_at (at)) }
-    ensures { MatchResult result
-        (λ x. (open_denial (plate_at at.entry) (state_at at.entry) ≡ None) × (plate_at x ≡ plate_at at.entry)
-        × (state_at x ≡ opened (plate_at at.entry) (state_at at.entry)) × Kept (state_at x))
-        (λ d. open_denial (plate_at at.entry) (state_at at.entry) ≡ Some d) }
-{
-    if at.cursor.place > 0 {
-        return Ok(at);
+impl<'a> Position<'a> {
+    // Past the header, which is read where nothing was read yet.
+    fn opened(self) -> Result<Self, Denial>
+        ensures { MatchResult result
+            (λ at. (open_denial (plate_at self.entry) (state_at self.entry) ≡ None) × (plate_at at ≡ plate_at self.entry)
+            × (state_at at ≡ opened (plate_at self.entry) (state_at self.entry)))
+            (λ d. open_denial (plate_at self.entry) (state_at self.entry) ≡ Some d) }
+    {
+        if self.cursor.place > 0 {
+            return Ok(self);
+        }
+        header(self.cursor.plate)
     }
-    header(at.cursor.plate)
-}
 
-// After a row, with so many of each kind to come.
-fn past<'a>(at: Position<'a>, cursor: Cursor<'a>, counted: u8, framed: u8) -> Position<'a>
-    requires { at.row < 32 }
-    ensures plate { plate_at result ≡ cursor.entry.plate.now }
-    ensures state { state_at result ≡ record { place = cursor.entry.place; row = at.entry.row + 1; counted = counted; framed = framed } }
-{
-    Position {
-        cursor,
-        row: at.row + 1,
-        counted,
-        framed,
+    // After a row, with so many of each kind to come.
+    fn past(self, cursor: Cursor<'a>, counted: u8, framed: u8) -> Self
+        requires { Kept (record { place = cursor.place; row = self.row + 1; counted = counted; framed = framed }) }
+        ensures plate { plate_at result ≡ cursor.entry.plate.now }
+        ensures state { state_at result ≡ record { place = cursor.entry.place; row = self.entry.row + 1; counted = counted; framed = framed } }
+    {
+        Position {
+            cursor,
+            row: self.row + 1,
+            counted,
+            framed,
+        }
     }
-}
 
-// Past the header: the next row, or none after the last.
-fn advance<'a>(at: &mut Position<'a>) -> Result<Option<Row<'a>>, Denial>
-    requires { Kept (state_at at.old) }
-    ensures plate { plate_at at.new ≡ plate_at at.old }
-    ensures result { told_next result ≡ unless (row_denial (plate_at at.old) (state_at at.old))
-        (next_row (plate_at at.old) (state_at at.old)) }
-    ensures after { is_ok result ≡ true → state_at at.new ≡ after_row (plate_at at.old) (state_at at.old) }
-    ensures kept { is_ok result ≡ true → Kept (state_at at.new) }
-{
-    let mut cursor = at.cursor;
-    if at.counted > 0 {
-        let row = counted_row(&mut cursor, at.row)?;
-        *at = past(*at, cursor, at.counted - 1, at.framed);
-        return Ok(Some(row));
+    // Past the header: the next row, or none after the last.
+    fn advance(&mut self) -> Result<Option<Row<'a>>, Denial>
+        ensures plate { plate_at self.new ≡ plate_at self.old }
+        ensures result { told_next result ≡ unless (row_denial (plate_at self.old) (state_at self.old))
+            (next_row (plate_at self.old) (state_at self.old)) }
+        ensures after { is_ok result ≡ true → state_at self.new ≡ after_row (plate_at self.old) (state_at self.old) }
+    {
+        let mut cursor = self.cursor;
+        if self.counted > 0 {
+            let row = counted_row(&mut cursor, self.row)?;
+            *self = self.past(cursor, self.counted - 1, self.framed);
+            return Ok(Some(row));
+        }
+        if self.framed > 0 {
+            let row = framed_row(&mut cursor, self.row)?;
+            *self = self.past(cursor, self.counted, self.framed - 1);
+            return Ok(Some(row));
+        }
+        check_end(cursor)?;
+        Ok(None)
     }
-    if at.framed > 0 {
-        let row = framed_row(&mut cursor, at.row)?;
-        *at = past(*at, cursor, at.counted, at.framed - 1);
-        return Ok(Some(row));
-    }
-    if let Some(denial) = extra_fault(cursor) {
-        return Err(denial);
-    }
-    Ok(None)
 }
 
 impl<'a> Reader<'a> {
@@ -147,7 +141,7 @@ impl<'a> Reader<'a> {
         ensures after { state self.new ≡ cond (is_ok result)
             (opened (plate_of self.old) (state self.old)) (state self.old) }
     {
-        let at = opened(self.at)?;
+        let at = self.at.opened()?;
         *self = Reader { at };
         Ok(Counts {
             counted: at.counted,
@@ -165,8 +159,8 @@ impl<'a> Reader<'a> {
             (state self.old) }
         ensures sound { SoundNext (told_next result) }
     {
-        let mut at = opened(self.at)?;
-        let row = advance(&mut at)?;
+        let mut at = self.at.opened()?;
+        let row = at.advance()?;
         *self = Reader { at };
         Ok(row)
     }

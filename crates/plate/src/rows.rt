@@ -7,10 +7,14 @@ ghost use Rattle.denial.specs.Checks.{unless};
 ghost use Rattle.plate.specs.Reading.{told, counted_here, framed_here};
 
 use super::cursor::Cursor;
-use super::faults::{counted_fault, framed_fault, spare_fault};
+use super::faults::{check_counted, check_framed, check_spare};
 use super::frame::{first_spare, unpack};
 use super::row::Row;
+use super::start::RowStart;
 use denial::{Denial, Rule};
+
+// The two kinds of row differ in the fields of their heads and in the rules that they keep. What they share is in the cursor
+// and in the start of a row: a trait over both heads would have five members and their laws for one short function.
 
 // The fixed fields of a miss-counted row: gap 12 bits, budget 12, tolerated misses 3, spare 5.
 #[derive(Clone, Copy)]
@@ -21,39 +25,39 @@ struct CountedHead {
     spare: u16,
 }
 
-fn counted_head(cursor: &mut Cursor) -> CountedHead
-    requires { (cursor.old.place % 8 ≡ 0) × ((cursor.old.place < 2 ^ 13) × (cursor.old.place / 8 + 4 ≤ length cursor.old.plate.now)) }
-    ensures plate { cursor.new.plate.now ≡ cursor.old.plate.now }
-    ensures gap { result.gap ≡ field cursor.old.plate.now cursor.old.place 12 }
-    ensures budget { result.budget ≡ field cursor.old.plate.now (cursor.old.place + 12) 12 }
-    ensures classes { (result.classes ≡ ranks_count cursor.old.plate.now cursor.old.place) × (result.classes ≤ 8) }
-    ensures spare { result.spare ≡ field cursor.old.plate.now (cursor.old.place + 27) 5 }
-    ensures place { cursor.new.place ≡ cursor.old.place + 32 }
-{
-    let gap = cursor.field(12);
-    let budget = cursor.field(12);
-    let misses = cursor.field(3);
-    let spare = cursor.field(5);
-    CountedHead {
-        gap,
-        budget,
-        classes: usize::from(misses) + 1,
-        spare,
+impl CountedHead {
+    fn read(cursor: &mut Cursor) -> Self
+        requires { (cursor.old.place % 8 ≡ 0) × ((cursor.old.place < 2 ^ 13) × (cursor.old.place / 8 + 4 ≤ length cursor.old.plate.now)) }
+        ensures plate { cursor.new.plate.now ≡ cursor.old.plate.now }
+        ensures gap { result.gap ≡ field cursor.old.plate.now cursor.old.place 12 }
+        ensures budget { result.budget ≡ field cursor.old.plate.now (cursor.old.place + 12) 12 }
+        ensures classes { (result.classes ≡ ranks_count cursor.old.plate.now cursor.old.place) × (result.classes ≤ 8) }
+        ensures spare { result.spare ≡ field cursor.old.plate.now (cursor.old.place + 27) 5 }
+        ensures place { cursor.new.place ≡ cursor.old.place + 32 }
+    {
+        let gap = cursor.field(12);
+        let budget = cursor.field(12);
+        let misses = cursor.field(3);
+        let spare = cursor.field(5);
+        CountedHead {
+            gap,
+            budget,
+            classes: usize::from(misses) + 1,
+            spare,
+        }
     }
-}
 
-// The first fault of a complete miss-counted row from bit `place` on.
-fn counted_content(row: u16, place: u16, head: CountedHead, ranks: &[u8]) -> Option<Denial>
-    requires { place < 2 ^ 13 }
-    ensures { result ≡ counted_content row place head.gap head.budget head.spare ranks.now }
-{
-    if let Some(denial) = spare_fault(row, place + 27, head.spare) {
-        return Some(denial);
+    // The complete row keeps its rules.
+    fn check(self, start: RowStart, ranks: &[u8]) -> Result<(), Denial>
+        ensures { result ≡ unless (counted_content start.row start.place self.gap self.budget self.spare ranks.now) tt }
+    {
+        check_spare(start, 27, self.spare)?;
+        check_counted(start, self.gap, self.budget, ranks)
     }
-    counted_fault(row, place, head.gap, head.budget, ranks)
 }
 
 // A miss-counted row: its fixed fields, and a rank byte for each class.
+#[tactic(auto, unfolding(crate::specs::Rows::counted_denial))]
 pub(crate) fn counted_row<'a>(cursor: &mut Cursor<'a>, row: u16) -> Result<Row<'a>, Denial>
     requires { (cursor.old.place % 8 ≡ 0) × (cursor.old.place < 2 ^ 13 - 256) }
     ensures plate { cursor.new.plate.now ≡ cursor.old.plate.now }
@@ -62,19 +66,12 @@ pub(crate) fn counted_row<'a>(cursor: &mut Cursor<'a>, row: u16) -> Result<Row<'
     ensures place { is_ok result ≡ true → cursor.new.place
         ≡ cursor.old.place + counted_bits cursor.old.plate.now cursor.old.place }
 {
-    let start = cursor.place as u16;
-    if let Some(denial) = cursor.lacks(row, 4) {
-        return Err(denial);
-    }
-    let head = counted_head(cursor);
+    let start = cursor.row_start(row);
+    cursor.check_left(row, 4)?;
+    let head = CountedHead::read(cursor);
     let place = cursor.place;
-    if let Some(denial) = cursor.lacks(row, head.classes) {
-        return Err(denial);
-    }
-    let ranks = cursor.bytes(head.classes);
-    if let Some(denial) = counted_content(row, start, head, ranks) {
-        return Err(denial);
-    }
+    let ranks = cursor.bytes(row, head.classes)?;
+    head.check(start, ranks)?;
     Ok(Row::MissCounted {
         gap: head.gap,
         budget: head.budget,
@@ -91,48 +88,49 @@ struct FramedHead {
     spare: u16,
 }
 
-fn framed_head(cursor: &mut Cursor) -> FramedHead
-    requires { (cursor.old.place % 8 ≡ 0) × ((cursor.old.place < 2 ^ 13) × (cursor.old.place / 8 + 2 ≤ length cursor.old.plate.now)) }
-    ensures plate { cursor.new.plate.now ≡ cursor.old.plate.now }
-    ensures gap { result.gap ≡ field cursor.old.plate.now cursor.old.place 12 }
-    ensures count { (result.count ≡ frames_count cursor.old.plate.now cursor.old.place) × (result.count ≤ 8) }
-    ensures spare { result.spare ≡ field cursor.old.plate.now (cursor.old.place + 15) 1 }
-    ensures place { cursor.new.place ≡ cursor.old.place + 16 }
-{
-    let gap = cursor.field(12);
-    let less_one = cursor.field(3);
-    let spare = cursor.field(1);
-    FramedHead {
-        gap,
-        count: usize::from(less_one) + 1,
-        spare,
+impl FramedHead {
+    fn read(cursor: &mut Cursor) -> Self
+        requires { (cursor.old.place % 8 ≡ 0) × ((cursor.old.place < 2 ^ 13) × (cursor.old.place / 8 + 2 ≤ length cursor.old.plate.now)) }
+        ensures plate { cursor.new.plate.now ≡ cursor.old.plate.now }
+        ensures gap { result.gap ≡ field cursor.old.plate.now cursor.old.place 12 }
+        ensures count { (result.count ≡ frames_count cursor.old.plate.now cursor.old.place) × (result.count ≤ 8) }
+        ensures spare { result.spare ≡ field cursor.old.plate.now (cursor.old.place + 15) 1 }
+        ensures place { cursor.new.place ≡ cursor.old.place + 16 }
+    {
+        let gap = cursor.field(12);
+        let less_one = cursor.field(3);
+        let spare = cursor.field(1);
+        FramedHead {
+            gap,
+            count: usize::from(less_one) + 1,
+            spare,
+        }
+    }
+
+    // The complete row keeps its rules.
+    fn check(self, start: RowStart, bytes: &[u8]) -> Result<(), Denial>
+        requires { length bytes.now ≤ 24 }
+        ensures { result ≡ unless (framed_content start.row start.place self.gap self.spare bytes.now) tt }
+    {
+        check_spare(start, 15, self.spare)?;
+        if let Some(i) = first_spare(bytes) {
+            return Err(start.denies(Rule::Spare, 36 + 24 * i as u16));
+        }
+        check_unpacked(start, self.gap, bytes)
     }
 }
 
-// The first fault of a frame row, from its frame bytes.
-fn unpacked_fault(row: u16, place: u16, gap: u16, bytes: &[u8]) -> Option<Denial>
-    requires { (place < 2 ^ 13) × (length bytes.now ≤ 24) }
-    ensures { result ≡ framed_fault row place gap (frames_of bytes.now) }
+// The frames of a row, from their bytes, keep its rules.
+fn check_unpacked(start: RowStart, gap: u16, bytes: &[u8]) -> Result<(), Denial>
+    requires { length bytes.now ≤ 24 }
+    ensures { result ≡ unless (framed_fault start.row start.place gap (frames_of bytes.now)) tt }
 {
     let frames = unpack(bytes);
-    framed_fault(row, place, gap, &frames[0..bytes.len() / 3])
-}
-
-// The first fault of a complete frame row from bit `place` on.
-fn framed_content(row: u16, place: u16, head: FramedHead, bytes: &[u8]) -> Option<Denial>
-    requires { (place < 2 ^ 13) × (length bytes.now ≤ 24) }
-    ensures { result ≡ framed_content row place head.gap head.spare bytes.now }
-{
-    if let Some(denial) = spare_fault(row, place + 15, head.spare) {
-        return Some(denial);
-    }
-    if let Some(i) = first_spare(bytes) {
-        return Some(Rule::Spare.denies(row, place + 36 + 24 * i as u16));
-    }
-    unpacked_fault(row, place, head.gap, bytes)
+    check_framed(start, gap, &frames[0..bytes.len() / 3])
 }
 
 // A frame row: its fixed fields, and three bytes for each frame.
+#[tactic(auto, unfolding(crate::specs::Rows::framed_denial))]
 pub(crate) fn framed_row<'a>(cursor: &mut Cursor<'a>, row: u16) -> Result<Row<'a>, Denial>
     requires { (cursor.old.place % 8 ≡ 0) × (cursor.old.place < 2 ^ 13 - 256) }
     ensures plate { cursor.new.plate.now ≡ cursor.old.plate.now }
@@ -141,19 +139,12 @@ pub(crate) fn framed_row<'a>(cursor: &mut Cursor<'a>, row: u16) -> Result<Row<'a
     ensures place { is_ok result ≡ true → cursor.new.place
         ≡ cursor.old.place + framed_bits cursor.old.plate.now cursor.old.place }
 {
-    let start = cursor.place as u16;
-    if let Some(denial) = cursor.lacks(row, 2) {
-        return Err(denial);
-    }
-    let head = framed_head(cursor);
+    let start = cursor.row_start(row);
+    cursor.check_left(row, 2)?;
+    let head = FramedHead::read(cursor);
     let place = cursor.place;
-    if let Some(denial) = cursor.lacks(row, 3 * head.count) {
-        return Err(denial);
-    }
-    let frames = cursor.bytes(3 * head.count);
-    if let Some(denial) = framed_content(row, start, head, frames) {
-        return Err(denial);
-    }
+    let frames = cursor.bytes(row, 3 * head.count)?;
+    head.check(start, frames)?;
     Ok(Row::Frames {
         gap: head.gap,
         frames,

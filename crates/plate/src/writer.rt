@@ -7,9 +7,9 @@ ghost use Rattle.denial.specs.Checks.{unless};
 ghost use Rattle.plate.specs.Plans.{counts_fault, header_bytes, bytes_of_frame, counted_bytes, framed_bytes};
 ghost use Rattle.plate.specs.Writing.{put_at, room_fault, counted_front, framed_front, left, Then, ReadsCounted, ReadsFramed};
 
-use super::faults::{counted_fault, framed_fault};
 use super::frame::Frame;
-use super::reading::counts_fault;
+use super::reading::check_counts;
+use super::rules::{check_frames, check_miss_counted};
 use denial::{Denial, Rule};
 
 // The two bytes of a header.
@@ -63,8 +63,8 @@ fn pack(frames: &[Frame]) -> [u8; 24]
     ensures { take (3 * length frames.now) result ≡ flat_map bytes_of_frame frames.now }
 {
     let mut bytes = [0; 24];
-    for i in 0..frames.len() {
-        bytes[3 * i..3 * i + 3].copy_from_slice(&pack_one(frames[i]));
+    for (i, frame) in frames.iter().enumerate() {
+        bytes[3 * i..3 * i + 3].copy_from_slice(&pack_one(*frame));
     }
     bytes
 }
@@ -79,33 +79,28 @@ fn fill(part: &mut [u8], front: &[u8], rest: &[u8])
     part[n..].copy_from_slice(rest);
 }
 
-// The byte after a row of so many fixed bytes and so many more.
-fn row_end(at: usize, front: usize, rest: usize) -> usize
-    requires { at + (front + rest) < 2 ^ 64 }
-    ensures { result ≡ at + (front + rest) }
-{
-    at + front + rest
-}
-
-// Fills a row at its place, and leaves all other bytes as they were.
-fn put_row(out: &mut [u8], at: usize, front: &[u8], rest: &[u8])
-    requires { at + (length front.now + length rest.now) ≤ length out.old }
-    ensures { out.new ≡ put_at out.old at (front.now ++ rest.now) }
-{
-    let end = row_end(at, front.len(), rest.len());
-    fill(&mut out[at..end], front, rest);
-}
-
-// The refusal of a buffer that has no `size` bytes from `at` on.
-fn room_fault(len: usize, at: usize, size: usize) -> Option<Denial>
+// The byte after `size` bytes from `at` on, in a buffer of `len` bytes that has them.
+fn end_within(len: usize, at: usize, size: usize) -> Result<usize, Denial>
     requires { (size ≤ 26) × (len < 2 ^ 63) }
-    ensures { result ≡ room_fault len at size }
+    ensures { result ≡ unless (room_fault len at size) (at + size) }
 {
     let end = at.saturating_add(size);
     if len < end {
-        return Some(Rule::Room.denies(end.min(65535) as u16, 0));
+        return Err(Rule::Room.denies(end.min(65535) as u16, 0));
     }
-    None
+    Ok(end)
+}
+
+// Writes a row from byte `at` on, and leaves all other bytes as they were: the byte after it.
+fn write_row(out: &mut [u8], at: usize, front: &[u8], rest: &[u8]) -> Result<usize, Denial>
+    requires { length front.now + length rest.now ≤ 26 }
+    ensures result { result ≡ unless (room_fault (length out.old) at (length front.now + length rest.now))
+        (at + (length front.now + length rest.now)) }
+    ensures out { out.new ≡ left result out.old at (front.now ++ rest.now) }
+{
+    let end = end_within(out.len(), at, front.len() + rest.len())?;
+    fill(&mut out[at..end], front, rest);
+    Ok(end)
 }
 
 // Writes the header of a plate with so many rows of each kind: the byte after it, or 3 or 8.
@@ -113,14 +108,8 @@ pub fn write_header(out: &mut [u8], counted: u8, framed: u8) -> Result<usize, De
     ensures result { result ≡ unless (option_or (counts_fault counted framed) (room_fault (length out.old) 0 2)) 2 }
     ensures out { out.new ≡ left result out.old 0 (header_bytes counted framed) }
 {
-    if let Some(denial) = counts_fault(counted, framed) {
-        return Err(denial);
-    }
-    if let Some(denial) = room_fault(out.len(), 0, 2) {
-        return Err(denial);
-    }
-    put_row(out, 0, &header_front(counted, framed), &[]);
-    Ok(2)
+    check_counts(counted, framed)?;
+    write_row(out, 0, &header_front(counted, framed), &[])
 }
 
 // Writes a miss-counted row from byte `at` on: the byte after it, or its fault as if it stood alone, or 8.
@@ -136,15 +125,8 @@ pub fn write_miss_counted(
     ensures out { out.new ≡ left result out.old at (counted_bytes (record { gap = gap; budget = budget; ranks = ranks.now })) }
     ensures back { Then result (ReadsCounted out.new at (record { gap = gap; budget = budget; ranks = ranks.now })) }
 {
-    if let Some(denial) = counted_fault(0, 0, gap, budget, ranks) {
-        return Err(denial);
-    }
-    let size = 4 + ranks.len();
-    if let Some(denial) = room_fault(out.len(), at, size) {
-        return Err(denial);
-    }
-    put_row(out, at, &counted_front(gap, budget, ranks.len()), ranks);
-    Ok(at + size)
+    check_miss_counted(gap, budget, ranks)?;
+    write_row(out, at, &counted_front(gap, budget, ranks.len()), ranks)
 }
 
 // Writes a frame row from byte `at` on: the byte after it, or its fault as if it stood alone, or 8.
@@ -154,19 +136,12 @@ pub fn write_frames(out: &mut [u8], at: usize, gap: u16, frames: &[Frame]) -> Re
     ensures out { out.new ≡ left result out.old at (framed_bytes (record { gap = gap; frames = frames.now })) }
     ensures back { Then result (ReadsFramed out.new at (record { gap = gap; frames = frames.now })) }
 {
-    if let Some(denial) = framed_fault(0, 0, gap, frames) {
-        return Err(denial);
-    }
-    let size = 2 + 3 * frames.len();
-    if let Some(denial) = room_fault(out.len(), at, size) {
-        return Err(denial);
-    }
+    check_frames(gap, frames)?;
     let bytes = pack(frames);
-    put_row(
+    write_row(
         out,
         at,
         &framed_front(gap, frames.len()),
         &bytes[0..3 * frames.len()],
-    );
-    Ok(at + size)
+    )
 }

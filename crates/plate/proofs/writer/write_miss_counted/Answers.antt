@@ -1,14 +1,12 @@
-use Rattle.std.proofs.Common.{◌+◌, ◌≤◌, length, sym, refl, arith, rules}
-use Rattle.plate.proofs.Puts.{put_both}
-use Rattle.plate.proofs.Written.{counted_put}
+use Rattle.std.proofs.Common.{◌+◌, length, rules}
+use Rattle.plate.specs.Faults.{counted_fault}
+use Rattle.plate.specs.Rows.{Counted}
+use Rattle.plate.proofs.Nones.{unless_ok}
+use Rattle.plate.proofs.Written.{counted_written}
 use Rattle.plate.proofs.writer.write_miss_counted.Goals as goal
 
-pub returns : goal.returns
-returns c =
-    let out = put_both c.args.out.now _ _ _ _ _ c.args.at c.put_row.ensures c.counted_front.ensures (refl {a = c.args.ranks.now}) in
-    let room : c.args.at + (4 + length c.args.ranks.now) ≤ length c.args.out.now = search rules in
-    record {
-      result = search rules;
-      out = out;
-      back = counted_put c.args.out.now _ c.args.at _ (omega arith) (sym c.in_default.ensures) out;
-    }
+pub returns-clause-back : goal.returns-clause-back
+returns-clause-back c =
+    let row : Counted = record { gap = c.args.gap; budget = c.args.budget; ranks = c.args.ranks.now } in
+    let none = unless_ok (counted_fault 0 0 row.gap row.budget row.ranks) tt tt c.in_ok-check_miss_counted.ensures.value in
+    counted_written c.args.out.now c.write_row.new.out c.args.at (c.args.at + (4 + length row.ranks)) row c.write_row.result none.0 (search rules) (search rules)

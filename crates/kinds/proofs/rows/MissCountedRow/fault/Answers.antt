@@ -1,14 +1,18 @@
-use Rattle.std.proofs.Common.{◌+◌, ◌-◌, Some, ap, ◌∙◌, arith}
+use Rattle.std.proofs.Common.{◌+◌, ◌-◌, take, Some, ap, ◌∙◌, arith}
+use Rattle.plate.specs.Faults.{counted_fault}
 use Rattle.kinds.specs.CountedRows.{fault_many, fault_past, faultless}
+use Rattle.kinds.proofs.Refused.{refused, kept}
 use Rattle.kinds.proofs.rows.MissCountedRow.fault.Goals as goal
 
 pub returns : goal.returns
 returns c =
     let row = c.args.self.now in
-    let fault = c.miss_counted_fault in
+    let n = row.misses + 1 - 0 in
+    let check = c.check_miss_counted in
     record {
-      value = fault_past row (row.misses + 1 - 0) fault.result (omega arith) c.if-self-gt7.false fault.ensures.value;
-      good = faultless row (row.misses + 1 - 0) fault.result (omega arith) c.if-self-gt7.false (omega arith) fault.ensures.sound;
+      value = fault_past row n c.err.result (omega arith) c.if-self-gt7.false
+          (refused (counted_fault 0 0 row.gap row.budget (take n row.ranks)) check.result c.err.result check.ensures.value c.err.ensures.value);
+      good = faultless row n c.err.result (omega arith) c.if-self-gt7.false (omega arith) (kept check.result c.err.result _ check.ensures.sound c.err.ensures.value);
     }
 
 pub returns-then-self-gt7 : goal.returns-then-self-gt7
