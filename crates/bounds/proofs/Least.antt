@@ -18,8 +18,8 @@ abbrev pub ShortBelow : List Task → (k c R : ℕ) → Type 0
 ShortBelow ts k c R = (r : ℕ) → r < R → r < workload ts k c r
 
 -- fewer ticks than a job of the task itself may take are not enough
-pub short_own : (ts : List Task) (k c own : ℕ) → own ≡ largest (terms_of (at ts k) c).rank (at ts k).classes → ShortBelow ts k c own
-short_own ts k c own e r h = omega arith
+pub short_own : (ts : List Task) (k c p own : ℕ) → p ≡ (terms_of (at ts k) c).rank → own ≡ largest p (at ts k).classes → ShortBelow ts k c own
+short_own ts k c p own q e r h = let s = ap (λ x. largest x (at ts k).classes) q in omega arith
 
 -- what is asked for within some ticks is needed at least
 pub short_on : (ts : List Task) → AllLawful ts → (k c R work : ℕ) → ShortBelow ts k c R → work ≡ workload ts k c R → ShortBelow ts k c work
