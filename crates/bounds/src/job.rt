@@ -105,6 +105,7 @@ impl<'g, G: Group> Job<'g, G> {
 
     // The least number of ticks that is enough, if any up to the gap is. Ticks grow to what was asked for within them, until they
     // are enough: what is asked for never falls as they grow, so none in between is enough.
+    #[tactic(auto, using(crate::proofs::Least::bound_found))]
     pub(crate) fn bound(&self) -> Option<u16>
         ensures { result ≡ bound (G.tasks self.now.group.now) self.now.task self.now.class }
     {

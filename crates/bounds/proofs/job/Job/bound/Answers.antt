@@ -1,7 +1,7 @@
 use Rattle.std.proofs.Common.{◌∙◌, arith}
 use Rattle.group.specs.Task.{at}
 use Rattle.bounds.proofs.Own.{own_low, own_high, within, beyond}
-use Rattle.bounds.proofs.Least.{short_own, short_on, bound_found, bound_none}
+use Rattle.bounds.proofs.Least.{short_own, short_on, bound_none}
 use Rattle.bounds.proofs.job.Job.bound.Goals as goal
 
 pub loop-gap-init : goal.loop-gap-init
@@ -15,12 +15,6 @@ loop-gap-init g c =
       high = omega arith;
       short = short_own ts j.task j.class j.rank j.own j.ranked j.asks;
     }
-
-pub returns-then-work-from : goal.returns-then-work-from
-returns-then-work-from g c =
-    let j = c.args.self.now in
-    let i = c.loop-gap.invariant in
-    bound_found (g.G.Group.tasks j.group.now) j.task j.class c.loop-gap.ticks i.low (omega arith) (omega arith) i.short
 
 pub returns-in_err-ticks : goal.returns-in_err-ticks
 returns-in_err-ticks g c =
