@@ -14,24 +14,24 @@ abbrev pub fits : List Task → (k c j : ℕ) → Bool
 fits ts k c j = leb (workload ts k c (suc j)) (suc j)
 
 -- no number of ticks below R is enough
-abbrev pub ShortBelow : List Task → (k c R : ℕ) → Type 0
-ShortBelow ts k c R = (r : ℕ) → r < R → r < workload ts k c r
+pub record ShortBelow (ts : List Task) (k c R : ℕ) : Type 0 where
+  pub short : (r : ℕ) → r < R → r < workload ts k c r
 
 -- fewer ticks than a job of the task itself may take are not enough
-pub short_own : (ts : List Task) (k c own : ℕ) → own ≡ largest (terms_of (at ts k) c).rank (at ts k).classes → ShortBelow ts k c own
-short_own ts k c own e r h = omega arith
+pub short_own : (ts : List Task) (k c p own : ℕ) → p ≡ (terms_of (at ts k) c).rank → own ≡ largest p (at ts k).classes → ShortBelow ts k c own
+short_own ts k c p own q e = record { short = λ r h. let s = ap (λ x. largest x (at ts k).classes) q in omega arith }
 
 -- what is asked for within some ticks is needed at least
 pub short_on : (ts : List Task) → AllLawful ts → (k c R work : ℕ) → ShortBelow ts k c R → work ≡ workload ts k c R → ShortBelow ts k c work
-short_on ts laws k c R work s e r h =
-    elim (cases_lt r R) [ inl l ↦ s r l | inr l ↦ (let g = workload_grows ts laws k c R r l in omega arith) ]
+short_on ts laws k c R work s e =
+    record { short = λ r h. elim (cases_lt r R) [ inl l ↦ s.short r l | inr l ↦ (let g = workload_grows ts laws k c R r l in omega arith) ] }
 
 -- the least number of ticks that is enough is the bound
 pub bound_found : (ts : List Task) (k c R : ℕ) → 1 ≤ R → R ≤ (at ts k).gap → workload ts k c R ≤ R → ShortBelow ts k c R → Some R ≡ bound ts k c
 unfolding bound
 bound_found ts k c (suc j) low high enough short =
     let s : Searched (fits ts k c) (at ts k).gap (Some j) =
-    (omega arith, le-leb (workload ts k c (suc j)) (suc j) enough, λ i h. lt-leb (workload ts k c (suc i)) (suc i) (short (suc i) (omega arith))) in
+    (omega arith, le-leb (workload ts k c (suc j)) (suc j) enough, λ i h. lt-leb (workload ts k c (suc i)) (suc i) (short.short (suc i) (omega arith))) in
     sym (ap (option_map suc) (first_is (fits ts k c) (at ts k).gap (Some j) s))
 bound_found ts k c zero low high enough short = absurd (omega arith)
 
@@ -39,7 +39,7 @@ bound_found ts k c zero low high enough short = absurd (omega arith)
 pub bound_none : (ts : List Task) (k c R : ℕ) → (at ts k).gap < R → ShortBelow ts k c R → None ≡ bound ts k c
 unfolding bound
 bound_none ts k c R high short =
-    let s : Searched (fits ts k c) (at ts k).gap None = λ i h. lt-leb (workload ts k c (suc i)) (suc i) (short (suc i) (omega arith)) in
+    let s : Searched (fits ts k c) (at ts k).gap None = λ i h. lt-leb (workload ts k c (suc i)) (suc i) (short.short (suc i) (omega arith)) in
     sym (ap (option_map suc) (first_is (fits ts k c) (at ts k).gap None s))
 
 -- what the bound says of a class that there is

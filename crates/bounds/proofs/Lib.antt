@@ -1,4 +1,5 @@
 pub mod Grows
 pub mod Least
-pub mod Judged
 pub mod Checked
+pub mod Chains
+pub mod Own

@@ -1,5 +1,5 @@
 -- The bound of a class: how old a job of that class can be when it ends. Assumes nothing.
-use Rattle.std.specs.Prelude.{◌≡◌, ℕ, zero, suc, ◌+◌, ◌-◌, ◌/◌, ◌<◌, ◌≤◌, max, cond, ◌||◌, leb, List, [], ◌∷◌, length, Some, Option, Result, MatchOption, ◌==◌, nat_le, nat_lt}
+use Rattle.std.specs.Prelude.{◌≡◌, ℕ, zero, suc, ◌+◌, ◌-◌, ◌/◌, ◌<◌, ◌≤◌, max, cond, ◌||◌, List, [], ◌∷◌, length, Some, Option, Result, MatchOption, ◌==◌, nat_le, nat_lt}
 use Rattle.std.specs.Option.{option_or, option_map}
 use Rattle.denial.specs.declared.Denial.{Denial}
 use Rattle.denial.specs.declared.Rule.TheVariants.{TaskCount, NoTask, NoClass}
@@ -52,7 +52,7 @@ Unbounded ts k c = (R : ℕ) → Bounded ts k c R → ⊥
 
 -- the bound of a class of a task, by trying 1, 2 and so on up to the gap
 unfoldable pub bound : List Task → (k c : ℕ) → Option ℕ
-bound ts k c = option_map suc (first (λ j. leb (workload ts k c (suc j)) (suc j)) (at ts k).gap)
+bound ts k c = option_map suc (first (λ j. nat_le (workload ts k c (suc j)) (suc j)) (at ts k).gap)
 
 -- every class of the same task that is ranked as high has a bound too, and one that is no larger
 abbrev pub HigherSooner : List Task → (k c R : ℕ) → Type 0

@@ -1,2 +1,1 @@
 pub mod Bound
-pub mod Steps

@@ -1,8 +1,7 @@
 // The bound of a class: the most ticks from the release of a job of that class to its end, over any group of work.
 #![tactic(auto)]
 
-mod step;
-mod work;
+mod job;
 
 ghost use Rattle.std.specs.Prelude.{◌≡◌, ◌<◌, ◌≤◌, length, IfOk};
 ghost use Rattle.denial.specs.Checks.{unless};
@@ -11,15 +10,13 @@ ghost use Rattle.bounds.specs.Bound.{bound, bound_answer, count_fault, task_faul
 
 use denial::{Denial, Rule};
 use group::Group;
-use step::{Step, judge};
-use work::{own_work, requests};
+use job::Job;
 
 // Refuses a group that has no task, or more than 64.
 pub fn check_count<G: Group>(group: &G) -> Result<(), Denial>
     ensures { result ≡ unless (count_fault (G.tasks group.now)) tt }
 {
-    let count = group.count();
-    if count == 0 || count > 64 {
+    if !(1..=64).contains(&group.count()) {
         return Err(Rule::TaskCount.denies(0, 0));
     }
     Ok(())
@@ -36,44 +33,10 @@ pub fn check_task<G: Group>(group: &G, task: u16) -> Result<(), Denial>
     Ok(())
 }
 
-// And a class number that the task does not have.
-fn check_class<G: Group>(group: &G, task: u16, class: u8) -> Result<(), Denial>
-    ensures { result ≡ unless (class_fault (G.tasks group.now) task class) tt }
-{
-    check_task(group, task)?;
-    if class == 0 || class > group.class_count(task) {
-        return Err(Rule::NoClass.denies(0, 0));
-    }
-    Ok(())
-}
-
-// The least number of ticks that is enough, if any up to the gap is. Ticks grow to what was asked for within them, until they are
-// enough: what is asked for never falls as they grow, so none in between is enough.
-fn least_enough<G: Group>(group: &G, task: u16, class: u8) -> Option<u16>
-    requires few { length (G.tasks group.now) ≤ 64 }
-    requires task { task < length (G.tasks group.now) }
-    requires class { Class (at (G.tasks group.now) task) class }
-    ensures { result ≡ bound (G.tasks group.now) task class }
-{
-    let rank = group.terms(task, class).rank;
-    let gap = group.gap(task);
-    let own = own_work(group, task, class);
-    let mut ticks = own;
-    loop {
-        let work = u32::from(own) + requests(group, task, ticks, rank);
-        match judge(work, ticks, gap) {
-            Step::Enough(bound) => return Some(bound),
-            Step::Never => return None,
-            Step::Longer(more) => ticks = more,
-        }
-    }
-}
-
 // The bound of a class of a task, none where there is none.
 pub fn bound<G: Group>(group: &G, task: u16, class: u8) -> Result<Option<u16>, Denial>
     ensures result { result ≡ bound_answer (G.tasks group.now) task class }
     ensures says { IfOk result (SaysBound (G.tasks group.now) task class) }
 {
-    check_class(group, task, class)?;
-    Ok(least_enough(group, task, class))
+    Ok(Job::of(group, task, class)?.bound())
 }

@@ -1,18 +1,13 @@
-use Rattle.std.proofs.Common.{◌≡◌, None, Ok, sym, ap, ◌∙◌}
-use Rattle.denial.specs.Checks.{unless}
-use Rattle.bounds.specs.Bound.{bound, class_fault}
-use Rattle.bounds.proofs.Checked.{clear, class_clear}
+use Rattle.std.proofs.Common.{◌≡◌}
+use Rattle.bounds.specs.Bound.{bound}
+use Rattle.bounds.proofs.Checked.{class_clear}
 use Rattle.bounds.proofs.Least.{bound_says}
 use Rattle.bounds.proofs.bound.Goals as goal
 
-pub returns : goal.returns
-returns g c =
+pub returns-clause-says : goal.returns-clause-says
+returns-clause-says g c =
     let ts = g.G.Group.tasks c.args.group.now in
-    let k = c.args.task in
-    let d = c.args.class in
-    let f : class_fault ts k d ≡ None = clear (class_fault ts k d) tt _ c.in_ok-check_class.ensures in
-    let h = class_clear ts k d f in
-    record {
-      result = ap Ok c.least_enough.ensures ∙ ap (λ x. unless x (bound ts k d)) (sym f);
-      says = rw c.least_enough.ensures (bound_says ts (g.met.G.Group.lawful c.args.group.now) k d h.0 h.1);
-    }
+    let made = c.in_ok-of.ensures in
+    let there = class_clear ts c.args.task c.args.class made.3 in
+    let is : c.bound.result ≡ bound ts c.args.task c.args.class = cc (made.0, made.1, made.2) in
+    rw is (bound_says ts (g.met.G.Group.lawful c.args.group.now) c.args.task c.args.class there.0 there.1)
