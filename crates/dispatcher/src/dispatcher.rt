@@ -6,15 +6,12 @@ ghost use Rattle.admission.specs.Start.{early_fault, start_fault, scratch_after,
 ghost use Rattle.dispatcher.specs.State.{new_seat};
 
 use crate::board::Dispatcher;
-use crate::seats::Table;
+use crate::seats::{SEATS, Table};
 use crate::slot::Seat;
 use admission::admit;
 use bounds::bound as bound_of;
 use denial::Denial;
 use group::Group;
-
-// How many tasks a dispatcher can serve.
-const SEATS: usize = 64;
 
 impl<G: Group> Dispatcher<G> {
     // A dispatcher over a group: the clock at 0, no job, and not started.

@@ -8,7 +8,6 @@ mod checks;
 mod dispatcher;
 pub mod end;
 pub mod event;
-mod keys;
 mod machine;
 mod order;
 mod passing;

@@ -1,11 +1,14 @@
 // What happens to one seat, and the seats of a table.
 ghost use Rattle.std.specs.Prelude.{◌≡◌, ◌<◌, slice_index_or, slice_set};
-ghost use Rattle.dispatcher.specs.State.{new_seat, release_seat, resume_seat};
+ghost use Rattle.dispatcher.specs.State.{new_seat, slot_of, release_seat, resume_seat};
+ghost use Rattle.dispatcher.specs.Boards.{state};
 
+use crate::board::Dispatcher;
 use crate::event::Event;
 use crate::machine::meet;
 use crate::seats::Table;
 use crate::slot::{Seat, Slot};
+use group::Group;
 
 impl Seat {
     // A seat that nothing has happened to.
@@ -57,6 +60,19 @@ impl Table {
             self.seats[task as usize]
         } else {
             Seat::NEW
+        }
+    }
+}
+
+impl<G: Group> Dispatcher<G> {
+    // The slot of a task; an empty one past the last task.
+    pub(crate) fn slot_at(&self, task: u16) -> Slot
+        ensures { result ≡ slot_of (state G.places self.now) task }
+    {
+        if task < self.group.count() {
+            self.table.seat(task).slot
+        } else {
+            Slot::Empty
         }
     }
 }
