@@ -16,7 +16,7 @@ use Rattle.dispatcher.specs.declared.slot.Seat.{Seat}
 use Rattle.dispatcher.specs.declared.slot.Slot.{Slot}
 use Rattle.dispatcher.specs.declared.slot.Slot.TheVariants.{Empty, Pending, Halted}
 use Rattle.dispatcher.specs.Slots.{is_pending, rank_of, age_of}
-use Rattle.dispatcher.specs.State.{State, state_of, stands, slot_of, waits, outranks, runner, new_seat}
+use Rattle.dispatcher.specs.State.{state_of, stands, slot_of, waits, outranks, runner, new_seat}
 use Rattle.dispatcher.specs.Questions.{expires_sooner, expiry_answer}
 use Rattle.dispatcher.specs.Keys.{rank_key, expiry_key}
 use Rattle.dispatcher.proofs.Seated.{length_seated}

@@ -53,9 +53,7 @@ impl<G: Group> Dispatcher<G> {
         ensures clock { self.new.clock ≡ self.old.clock }
         ensures law { StartLaw self.old.started (length scratch.old) (G.tasks self.old.group) result }
     {
-        if let Err(denial) = self.judge(scratch) {
-            return Err(denial);
-        }
+        self.judge(scratch)?;
         self.started = true;
         Ok(())
     }

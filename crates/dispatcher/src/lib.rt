@@ -15,6 +15,7 @@ mod seating;
 mod seats;
 pub mod slot;
 mod tick;
+mod turn;
 pub mod view;
 
 pub use board::Dispatcher;

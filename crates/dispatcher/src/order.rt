@@ -6,14 +6,13 @@ ghost use Rattle.dispatcher.specs.Keys.{rank_key, expiry_key};
 ghost use Rattle.dispatcher.specs.Questions.{next_answer, expiry_answer};
 ghost use Rattle.dispatcher.specs.Boards.{state};
 
-use std::array;
-use std::cmp::Reverse;
-
 use crate::board::Dispatcher;
 use crate::seats::SEATS;
 use crate::slot::Slot;
 use choose::foremost;
 use group::Group;
+use std::array;
+use std::cmp::Reverse;
 
 // Ticks left and task number: fewer ticks go ahead, and of as many the lower task.
 #[derive(Clone, Copy, PartialEq, Eq, PartialOrd, Ord)]
