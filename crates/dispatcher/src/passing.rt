@@ -50,7 +50,8 @@ fn pass_task<G: Group>(group: &mut G, table: &mut Table, tick: Tick, task: u16) 
     })
 }
 
-// Puts a record, if there is one, behind those that the list has: how many it has then.
+// Puts a record, if there is one, behind those that the list has: how many it has then. The list is the caller's, and the tick
+// answers with the count: a struct of both would stand for this one loop only.
 fn note(ends: &mut [End], count: usize, end: Option<End>) -> usize
     requires { count + length (listed end) ≤ length ends.old }
     ensures count { result ≡ count + length (listed end) }

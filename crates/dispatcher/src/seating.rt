@@ -43,11 +43,10 @@ impl Table {
     pub(crate) fn seat(&self, task: u16) -> Seat
         ensures { result ≡ slice_index_or self.now.seats task new_seat }
     {
-        if task < 64 {
-            self.seats[usize::from(task)]
-        } else {
-            Seat::NEW
-        }
+        self.seats
+            .get(usize::from(task))
+            .copied()
+            .unwrap_or(Seat::NEW)
     }
 }
 

@@ -2,7 +2,7 @@ use Rattle.std.proofs.Common.{◌≡◌, ◌<◌, length, None, sym, ap, ◌∙�
 use Rattle.bounds.proofs.Checked.{clear}
 use Rattle.dispatcher.specs.State.{state_of, resumed}
 use Rattle.dispatcher.specs.Refusals.{resume_fault, kept_if}
-use Rattle.dispatcher.proofs.Released.{resume_known, resume_left}
+use Rattle.dispatcher.proofs.Released.{task_known, resume_left}
 use Rattle.dispatcher.proofs.board.Dispatcher.resume.Goals as goal
 
 pub returns-clause-state : goal.returns-clause-state
@@ -14,7 +14,7 @@ returns-clause-state g c =
     let k = c.args.task in
     let f : resume_fault ts s k ≡ None = clear (resume_fault ts s k) tt _ c.in_ok-check_resume.ensures in
     let m = g.met.G.Group.placed d.group in
-    let h = resume_known ts d.clock d.started ps d.table.seats m k f in
+    let h = task_known ts d.clock d.started ps d.table.seats m k _ f in
     let l : k < length d.table.seats = omega (arith, h.0, h.1, d.table.sized) in
     ap (state_of d.clock d.started ps) c.meet.ensures ∙ resume_left ts d.clock d.started ps d.table.seats m k h.0 l
     ∙ sym (ap (λ x. kept_if x s (resumed k s)) f)
