@@ -1,52 +1,133 @@
 -- The search for the foremost finds it, place by place.
-use Rattle.std.proofs.Common.{◌≡◌, ℕ, zero, suc, ◌+◌, ◌<◌, ◌≤◌, Bool, true, false, cond, ◌⊎◌, List, length, get_or, is_some, IfSome, Some, None, Option, sym, refl, ap, ◌∙◌, inl, inr, add-one, arith, MatchOption}
+use Rattle.std.proofs.Common.{◌≡◌, ℕ, zero, suc, ◌+◌, ◌<◌, ◌≤◌, Bool, true, false, cond, ◌⊎◌, List, [], ◌∷◌, length, get_or, is_some, IfSome, Some, None, Option, sym, refl, ap, ◌∙◌, inl, inr, add-one, add-zero, arith, MatchOption}
 use Rattle.std.specs.Option.{option_map}
+use Rattle.std.specs.Cmp.{IsTotalOrder, upto}
+use Rattle.std.specs.List.{filter_map, enumerate_from, fold, reduce}
+use Rattle.std.specs.declared.cmp.Ordering.{Ordering}
+use Rattle.std.specs.declared.cmp.Ordering.TheVariants.{Less, Equal, Greater}
+use Rattle.std.specs.Ordering.{is_lt, is_gt, nat_cmp, ordering_reverse, ordering_then, min_by_ordering}
 use Rattle.std.proofs.lemmas.Bool.{both_ways}
-use Rattle.choose.specs.Foremost.{foremost, chosen, key_ahead, goes_ahead, better, IsForemost, IsLowest, Orders}
+use Rattle.choose.specs.Foremost.{foremost, chosen, key_ahead, goes_ahead, IsForemost, IsLowest, Orders}
 
 -- is there a key at i?
 abbrev pub present : {K : Type 0} → List (Option K) → ℕ → Bool
 present keys i = is_some (get_or keys i None)
 
+-- does the first key go ahead of the second?
+abbrev pub lesser : {K : Type 0} → (K → K → Ordering) → K → K → Bool
+lesser R x y = is_lt (R x y)
+
+-- the entry at a place, as a pair with its place behind it
+abbrev pub paired : {K : Type 0} → ℕ × Option K → Option (K × ℕ)
+paired p = option_map (λ k. (k, p.0)) p.1
+
+-- the lesser pair, of two level ones the first
+abbrev pub least_pair : {K : Type 0} → (K → K → Ordering) → K × ℕ → K × ℕ → K × ℕ
+least_pair R p q = min_by_ordering (ordering_then (R p.0 q.0) (nat_cmp p.1 q.1)) p q
+
+-- the least of what was found before, if anything was, and of more
+abbrev from : {A : Type 0} → (A → A → A) → Option A → List A → Option A
+from f None xs = reduce f xs
+from f (Some b) xs = Some (fold f b xs)
+
 -- the foremost of the first n places, with its key
-abbrev pub Best : {K : Type 0} → (K → K → Bool) → List (Option K) → ℕ → Option (ℕ × K) → Type 0
-Best {K} ahead keys n best =
-    MatchOption best (foremost (present keys) (goes_ahead ahead keys) n ≡ None)
-    (λ p. (foremost (present keys) (goes_ahead ahead keys) n ≡ Some p.0) × (get_or keys p.0 None ≡ Some p.1))
+abbrev Best : {K : Type 0} → (K → K → Ordering) → List (Option K) → ℕ → Option (K × ℕ) → Type 0
+Best {K} R keys n best =
+    MatchOption best (foremost (present keys) (goes_ahead (lesser R) keys) n ≡ None)
+    (λ p. (foremost (present keys) (goes_ahead (lesser R) keys) n ≡ Some p.1) × (get_or keys p.1 None ≡ Some p.0) × (p.1 < n))
 
-pub best_none : {K : Type 0} (ahead : K → K → Bool) (keys : List (Option K)) → Best ahead keys 0 None
-unfolding foremost
-best_none ahead keys = refl
+module _ {K : Type 0} (R : K → K → Ordering) (o : IsTotalOrder R) (keys : List (Option K)) where
+  none_yet : Best R keys 0 None
+  unfolding foremost
+  none_yet = refl
 
--- one place more
-pub best_more : {K : Type 0} (ahead : K → K → Bool) (keys : List (Option K)) (n : ℕ) (best : Option (ℕ × K)) (key : Option K) → key ≡ get_or keys n None
-    → Best ahead keys n best → Best ahead keys (n + 1) (better ahead best n key)
-unfolding foremost
-best_more {K} ahead keys n best None e h = rw (add-one n) (absent best h)
-  where
-    f : foremost (present keys) (goes_ahead ahead keys) (suc n) ≡ foremost (present keys) (goes_ahead ahead keys) n
-    f = rw (sym e)
+  -- a place without a key
+  passed_over : (n : ℕ) (best : Option (K × ℕ)) → get_or keys n None ≡ None → Best R keys n best → Best R keys (n + 1) best
+  unfolding foremost
+  passed_over n best e h = rw (add-one n) (on best h)
+    where
+      f : foremost (present keys) (goes_ahead (lesser R) keys) (suc n) ≡ foremost (present keys) (goes_ahead (lesser R) keys) n
+      f = rw e
 
-    absent : (best : Option (ℕ × K)) → Best ahead keys n best → Best ahead keys (suc n) best
-    absent None h = f ∙ h
-    absent (Some p) h = (f ∙ h.0, h.1)
-best_more {K} ahead keys n None (Some k) e h = rw (add-one n) (f, sym e)
-  where
-    f : foremost (present keys) (goes_ahead ahead keys) (suc n) ≡ Some n
-    f = rw (sym e, h)
-best_more {K} ahead keys n (Some p) (Some k) e h = rw (add-one n) (on (ahead k p.1) refl)
-  where
-    f : foremost (present keys) (goes_ahead ahead keys) (suc n) ≡ Some (cond (goes_ahead ahead keys n p.0) n p.0)
-    f =
-        ap (λ b. cond b (Some (chosen (goes_ahead ahead keys) (foremost (present keys) (goes_ahead ahead keys) n) n)) (foremost (present keys) (goes_ahead ahead keys) n)) (ap is_some (sym e))
-        ∙ ap (λ o. Some (chosen (goes_ahead ahead keys) o n)) h.0
+      on : (best : Option (K × ℕ)) → Best R keys n best → Best R keys (suc n) best
+      on None h = f ∙ h
+      on (Some p) h = (f ∙ h.0, h.1, omega (arith, h.2))
 
-    test : goes_ahead ahead keys n p.0 ≡ ahead k p.1
-    test = rw (sym e, h.1)
+  first_one : (n : ℕ) (k : K) → get_or keys n None ≡ Some k → Best R keys n None → Best R keys (n + 1) (Some (k, n))
+  unfolding foremost
+  first_one n k e h = rw (add-one n) (f, e, omega arith)
+    where
+      f : foremost (present keys) (goes_ahead (lesser R) keys) (suc n) ≡ Some n
+      f = rw (e, h)
 
-    on : (b : Bool) → ahead k p.1 ≡ b → Best ahead keys (suc n) (cond b (Some (n, k)) (Some p))
-    on true q = (f ∙ ap (λ x. Some (cond x n p.0)) (test ∙ q), sym e)
-    on false q = (f ∙ ap (λ x. Some (cond x n p.0)) (test ∙ q), h.1)
+  -- an earlier pair gives way only to a lesser key
+  gives_way : (p : K × ℕ) (n : ℕ) (k : K) → p.1 < n → least_pair R p (k, n) ≡ cond (lesser R k p.0) (k, n) p
+  gives_way p n k l = on (R p.0 k) refl
+    where
+      before : (c : Ordering) → nat_cmp p.1 n ≡ c → c ≡ Less
+      before c e = grind arith
+
+      turned : (c : Ordering) → R p.0 k ≡ c → lesser R k p.0 ≡ is_gt c
+      turned c e = sym (flip (R k p.0)) ∙ ap is_gt (sym (o.antisymm p.0 k) ∙ e)
+        where
+          flip : (r : Ordering) → is_gt (ordering_reverse r) ≡ is_lt r
+          flip Less = refl
+          flip Equal = refl
+          flip Greater = refl
+
+      on : (c : Ordering) → R p.0 k ≡ c → min_by_ordering (ordering_then c (nat_cmp p.1 n)) p (k, n) ≡ cond (lesser R k p.0) (k, n) p
+      on Less e = rw (turned Less e) refl
+      on Equal e = rw (turned Equal e) (ap (λ c. min_by_ordering c p (k, n)) (before (nat_cmp p.1 n) refl))
+      on Greater e = rw (turned Greater e) refl
+
+  one_more : (n : ℕ) (p : K × ℕ) (k : K) → get_or keys n None ≡ Some k → Best R keys n (Some p) → Best R keys (n + 1) (Some (least_pair R p (k, n)))
+  unfolding foremost
+  one_more n p k e h = rw (gives_way p n k h.2) (rw (add-one n) (on (lesser R k p.0) refl))
+    where
+      f : foremost (present keys) (goes_ahead (lesser R) keys) (suc n) ≡ Some (cond (goes_ahead (lesser R) keys n p.1) n p.1)
+      f =
+          ap (λ b. cond b (Some (chosen (goes_ahead (lesser R) keys) (foremost (present keys) (goes_ahead (lesser R) keys) n) n)) (foremost (present keys) (goes_ahead (lesser R) keys) n)) (ap is_some e)
+          ∙ ap (λ w. Some (chosen (goes_ahead (lesser R) keys) w n)) h.0
+
+      test : goes_ahead (lesser R) keys n p.1 ≡ lesser R k p.0
+      test = rw (e, h.1)
+
+      on : (b : Bool) → lesser R k p.0 ≡ b → Best R keys (suc n) (Some (cond b (k, n) p))
+      on true q = (f ∙ ap (λ x. Some (cond x n p.1)) (test ∙ q), e, omega arith)
+      on false q = (f ∙ ap (λ x. Some (cond x n p.1)) (test ∙ q), h.1, omega (arith, h.2))
+
+  -- the entries from n on are these
+  record Rest (n : ℕ) (rest : List (Option K)) : Type 0 where
+    long : length keys ≡ n + length rest
+    reads : (i : ℕ) → get_or keys (n + i) None ≡ get_or rest i None
+
+  next : (n : ℕ) (k : Option K) (ks : List (Option K)) → Rest n (k ∷ ks) → (get_or keys n None ≡ k) × Rest (n + 1) ks
+  next n k ks h = (
+    ap (λ j. get_or keys j None) (sym (add-zero n)) ∙ h.reads 0,
+    record {
+      long = omega (arith, h.long);
+      reads = λ i. ap (λ j. get_or keys j None) (let q : n + 1 + i ≡ n + suc i = omega arith in q) ∙ h.reads (suc i);
+    },
+  )
+
+  rest_of : (rest : List (Option K)) (n : ℕ) (best : Option (K × ℕ)) → Rest n rest → Best R keys n best
+      → Best R keys (length keys) (from (least_pair R) best (filter_map paired (enumerate_from n rest)))
+  rest_of [] n None h b = let q : length keys ≡ n = omega (arith, h.long) in rw q b
+  rest_of [] n (Some p) h b = let q : length keys ≡ n = omega (arith, h.long) in rw q b
+  rest_of (None ∷ ks) n None h b = let m = next n None ks h in rest_of ks (n + 1) None m.1 (passed_over n None m.0 b)
+  rest_of (None ∷ ks) n (Some p) h b = let m = next n None ks h in rest_of ks (n + 1) (Some p) m.1 (passed_over n (Some p) m.0 b)
+  rest_of (Some x ∷ ks) n None h b = let m = next n (Some x) ks h in rest_of ks (n + 1) (Some (x, n)) m.1 (first_one n x m.0 b)
+  rest_of (Some x ∷ ks) n (Some p) h b =
+      let m = next n (Some x) ks h in rest_of ks (n + 1) (Some (least_pair R p (x, n))) m.1 (one_more n p x m.0 b)
+
+  -- the least of the pairs stands at the foremost place
+  pub least_is_foremost : (r : Option ℕ) → r ≡ option_map (λ p. p.1) (reduce (least_pair R) (filter_map paired (enumerate_from 0 keys)))
+      → r ≡ foremost (present keys) (goes_ahead (lesser R) keys) (length keys)
+  least_is_foremost r e = e ∙ on (reduce (least_pair R) (filter_map paired (enumerate_from 0 keys))) (rest_of keys 0 None (record { long = omega arith; reads = λ i. ap (λ j. get_or keys j None) (omega arith) }) none_yet)
+    where
+      on : (best : Option (K × ℕ)) → Best R keys (length keys) best → option_map (λ p. p.1) best ≡ foremost (present keys) (goes_ahead (lesser R) keys) (length keys)
+      on None h = sym h
+      on (Some p) h = sym h.0
 
 -- The law of the foremost ----------------------------------------------------------------------------------------------------
 
@@ -146,19 +227,29 @@ foremost_same there there' ahead ahead' (suc n) p a =
         same (Some r) h e = ap (λ x. cond x n r) (a n r (omega arith) h.0 e h.1)
     on o h false e q = rw (sym q, sym (p n (omega arith)), e)
 
--- all places: the answer is the foremost, and so keeps its law
-pub best_all : {K : Type 0} (ahead : K → K → Bool) → ((x y : K) → ahead x y ≡ true → ahead y x ≡ false)
-    → ((x y z : K) → ahead x y ≡ false → ahead y z ≡ false → ahead x z ≡ false) → (keys : List (Option K)) (n : ℕ) (best : Option (ℕ × K)) → n ≡ length keys
-    → Best ahead keys n best → (option_map (λ p. p.0) best ≡ foremost (present keys) (goes_ahead ahead keys) (length keys))
-    × IsForemost (present keys) (goes_ahead ahead keys) (length keys) (option_map (λ p. p.0) best)
-best_all {K} ahead one chain keys n best e h =
-    let q : option_map (λ p. p.0) best ≡ foremost (present keys) (goes_ahead ahead keys) (length keys) =
-    found best h ∙ ap (foremost (present keys) (goes_ahead ahead keys)) e in
-    (q, rw q (foremost_found (present keys) (goes_ahead ahead keys) (keys_order ahead one chain keys) (length keys)).0)
+-- a total order of the keys orders a list of them, so the foremost keeps its law
+pub foremost_law : {K : Type 0} (R : K → K → Ordering) → IsTotalOrder R → (keys : List (Option K))
+    → IsForemost (present keys) (goes_ahead (lesser R) keys) (length keys) (foremost (present keys) (goes_ahead (lesser R) keys) (length keys))
+foremost_law {K} R o keys = (foremost_found (present keys) (goes_ahead (lesser R) keys) (keys_order (lesser R) one_way chain keys) (length keys)).0
   where
-    found : (best : Option (ℕ × K)) → Best ahead keys n best → option_map (λ p. p.0) best ≡ foremost (present keys) (goes_ahead ahead keys) n
-    found None h = sym h
-    found (Some p) h = sym h.0
+    turn : (r : Ordering) → is_lt (ordering_reverse r) ≡ is_gt r
+    turn Less = refl
+    turn Equal = refl
+    turn Greater = refl
+
+    back : (x y : K) → lesser R x y ≡ is_gt (R y x)
+    back x y = ap is_lt (o.antisymm x y) ∙ turn (R y x)
+
+    one_way : (x y : K) → lesser R x y ≡ true → lesser R y x ≡ false
+    one_way x y e = on (R y x) (sym (back x y) ∙ e)
+      where
+        on : (r : Ordering) → is_gt r ≡ true → is_lt r ≡ false
+        on Less q = absurd (both_ways false refl q)
+        on Equal q = refl
+        on Greater q = refl
+
+    chain : (x y z : K) → lesser R x y ≡ false → lesser R y z ≡ false → lesser R x z ≡ false
+    chain x y z p q = back x z ∙ upto o z y x (sym (back y z) ∙ q) (sym (back x y) ∙ p)
 
 -- places without a key at the end change nothing
 pub foremost_beyond : (there : ℕ → Bool) (ahead : ℕ → ℕ → Bool) (m n : ℕ) → m ≤ n → ((i : ℕ) → m ≤ i → i < n → there i ≡ false)

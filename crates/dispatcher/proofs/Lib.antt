@@ -8,4 +8,5 @@ pub mod Ends
 pub mod Released
 pub mod Passes
 pub mod Chooses
+pub mod Counts
 pub mod Ticked

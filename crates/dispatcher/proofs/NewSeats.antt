@@ -10,5 +10,5 @@ getD_same (suc n) zero a = refl
 getD_same (suc n) (suc i) a = getD_same n i a
 
 -- no job in new seats
-pub new_steady : (n : ℕ) → Steady (replicate n new_seat) 0
-new_steady n i = rw (getD_same n i new_seat) (omega arith)
+pub new_steady : (n clock : ℕ) → Steady (replicate n new_seat) clock
+new_steady n clock i = rw (getD_same n i new_seat) (omega arith)

@@ -82,13 +82,12 @@ noted_more front before now count (Some x) c e r =
     ∙ sym (append_assoc front (x ∷ []) (drop (count + 1) before))
 
 -- the record of one task is that of the state when the tick began
-pub end_at : (ts ts₁ : List Task) (clock : ℕ) (places : List ℕ) (seats seats₁ : List Seat) (mark runs : Bool) (ran : Option ℕ) (n : ℕ) (l : List End) → length places ≡ length ts
-    → n < length ts → ts₁ ≡ ts → runs ≡ is_running ran n → get_or seats₁ n new_seat ≡ get_or seats n new_seat
-    → l ≡ end_record n clock (get_or seats₁ n new_seat).slot (way_of (at ts₁ n) clock runs mark (get_or seats₁ n new_seat).slot)
+pub end_at : (ts ts₁ : List Task) (clock : ℕ) (places : List ℕ) (seats seats₁ : List Seat) (mark : Bool) (ran : Option ℕ) (n : ℕ) (l : List End) → length places ≡ length ts
+    → n < length ts → ts₁ ≡ ts → get_or seats₁ n new_seat ≡ get_or seats n new_seat
+    → l ≡ end_record n clock (get_or seats₁ n new_seat).slot (way_of (at ts₁ n) clock (is_running ran n) mark (get_or seats₁ n new_seat).slot)
     → l ≡ ends_at ts (state_of clock true places seats) mark ran n
-end_at ts ts₁ clock places seats seats₁ mark runs ran n l m h e r q p =
-    p ∙ ap (λ x. end_record n clock (get_or seats₁ n new_seat).slot (way_of (at x n) clock runs mark (get_or seats₁ n new_seat).slot)) e
-    ∙ ap (λ x. end_record n clock (get_or seats₁ n new_seat).slot (way_of (at ts n) clock x mark (get_or seats₁ n new_seat).slot)) r
+end_at ts ts₁ clock places seats seats₁ mark ran n l m h e q p =
+    p ∙ ap (λ x. end_record n clock (get_or seats₁ n new_seat).slot (way_of (at x n) clock (is_running ran n) mark (get_or seats₁ n new_seat).slot)) e
     ∙ ap (λ x. end_record n clock x.slot (way_of (at ts n) clock (is_running ran n) mark x.slot)) q
     ∙ ap (λ x. end_record n clock x.seat.slot (way_of (at ts n) clock (is_running ran n) mark x.seat.slot)) (sym (standing_is ts clock true places seats m n h))
 

@@ -1,16 +1,13 @@
 -- What a release and a resume check and leave, from what the dispatcher holds.
-use Rattle.std.proofs.Common.{◌≡◌, ℕ, ◌<◌, ◌≤◌, Bool, not, leb, List, length, get_or, set, None, Result, sym, ap, ◌∙◌, arith}
+use Rattle.std.proofs.Common.{◌≡◌, ℕ, ◌<◌, ◌≤◌, Bool, leb, List, length, get_or, set, None, Ok, Option, Result, sym, ap, ◌∙◌, arith}
 use Rattle.std.specs.Option.{option_or}
 use Rattle.denial.specs.declared.Denial.{Denial}
-use Rattle.denial.specs.declared.Rule.TheVariants.{NotHalted}
-use Rattle.denial.specs.Numbers.{denied}
-use Rattle.denial.specs.Checks.{when, unless}
+use Rattle.denial.specs.Checks.{unless}
 use Rattle.group.specs.Task.{Task, at, place}
 use Rattle.dispatcher.specs.declared.slot.Seat.{Seat}
 use Rattle.dispatcher.specs.declared.slot.Slot.{Slot}
-use Rattle.dispatcher.specs.Slots.{is_halted}
-use Rattle.dispatcher.specs.State.{state_of, standing, stands, seated, new_seat, slot_of, release_seat, resume_seat, released, resumed}
-use Rattle.dispatcher.specs.Refusals.{unstarted_fault, no_task_fault, seat_fault, release_fault, resume_fault, release_answer, resume_answer}
+use Rattle.dispatcher.specs.State.{state_of, standing, stands, seated, new_seat, slot_of, release_seat, resume_seat, release_one, resume_one, released, resumed}
+use Rattle.dispatcher.specs.Refusals.{unstarted_fault, no_task_fault, known_answer}
 use Rattle.dispatcher.proofs.Seated.{seated_at, seated_set}
 use Rattle.bounds.proofs.Checked.{both_clear, when_clear}
 use Rattle.dispatcher.proofs.Faults.{seats_enough}
@@ -25,45 +22,35 @@ module _ (ts : List Task) (clock : ℕ) (started : Bool) (places : List ℕ) (se
   number_known k e = leb-false (length ts) k (when_clear (leb (length ts) k) _ e)
 
   -- the checks in their order
-  pub release_checked : (k : ℕ) (r : Result (Unit {0}) Denial) → unstarted_fault started (length ts) ≡ None → no_task_fault (length ts) k ≡ None
-      → r ≡ unless (seat_fault (at ts k).gap clock (get_or seats k new_seat)) tt → r ≡ release_answer ts (state_of clock started places seats) k
-  release_checked k r u n e =
+  pub known_checked : (k : ℕ) (seat : Seat) → unstarted_fault started (length ts) ≡ None → no_task_fault (length ts) k ≡ None → seat ≡ get_or seats k new_seat
+      → ◌≡◌ {A = Result Seat Denial} (Ok seat) (known_answer ts (state_of clock started places seats) k)
+  known_checked k seat u n e =
       let s = state_of clock started places seats in
-      e ∙ ap (λ x. unless (seat_fault (at ts k).gap clock x.seat) tt) (sym (standing_is k (number_known k n)))
-      ∙ ap (λ f. unless f tt) (sym (ap (λ f. option_or f (option_or (no_task_fault (length ts) k) (seat_fault (at ts k).gap clock (standing s k).seat))) u
-      ∙ ap (λ f. option_or f (seat_fault (at ts k).gap clock (standing s k).seat)) n))
+      ap Ok (e ∙ ap (λ x. x.seat) (sym (standing_is k (number_known k n))))
+      ∙ ap (λ f. unless f (standing s k).seat) (sym (ap (λ f. option_or f (no_task_fault (length ts) k)) u ∙ n))
 
-  pub resume_checked : (k : ℕ) (r : Result (Unit {0}) Denial) → unstarted_fault started (length ts) ≡ None → no_task_fault (length ts) k ≡ None
-      → r ≡ unless (when (not (is_halted (get_or seats k new_seat).slot)) (denied NotHalted 0 0)) tt → r ≡ resume_answer ts (state_of clock started places seats) k
-  resume_checked k r u n e =
-      let s = state_of clock started places seats in
-      e ∙ ap (λ x. unless (when (not (is_halted x.seat.slot)) (denied NotHalted 0 0)) tt) (sym (standing_is k (number_known k n)))
-      ∙ ap (λ f. unless f tt) (sym (ap (λ f. option_or f (option_or (no_task_fault (length ts) k) (when (not (is_halted (slot_of s k))) (denied NotHalted 0 0)))) u
-      ∙ ap (λ f. option_or f (when (not (is_halted (slot_of s k))) (denied NotHalted 0 0))) n))
+  -- what is left once a task's seat is set
+  set_left : (k : ℕ) (seat : Seat) → k < length ts → k < length seats
+      → state_of clock started places (set seats k seat) ≡ record { clock = clock; started = started; standings = set (seated places seats) k (stands (place places k) seat) }
+  set_left k seat l m = ap (λ x. record { clock = clock; started = started; standings = x }) (seated_set places seats k seat (omega arith) m)
 
-  -- and what is left
+  -- by a release, and by a resume
   pub release_left : (k : ℕ) → k < length ts → k < length seats
       → state_of clock started places (set seats k (release_seat ((at ts k).class_at (place places k)) clock (get_or seats k new_seat))) ≡ released ts k (state_of clock started places seats)
   release_left k l m =
-      ap (λ x. record { clock = clock; started = started; standings = x })
-      (seated_set places seats k (release_seat ((at ts k).class_at (place places k)) clock (get_or seats k new_seat)) (omega arith) m
-      ∙ ap (λ x. set (seated places seats) k (stands x.position (release_seat ((at ts k).class_at x.position) clock x.seat))) (sym (standing_is k l)))
+      set_left k (release_seat ((at ts k).class_at (place places k)) clock (get_or seats k new_seat)) l m
+      ∙ ap (λ x. record { clock = clock; started = started; standings = set (seated places seats) k (release_one (at ts k) clock x) }) (sym (standing_is k l))
 
   pub resume_left : (k : ℕ) → k < length ts → k < length seats
       → state_of clock started places (set seats k (resume_seat (get_or seats k new_seat))) ≡ resumed k (state_of clock started places seats)
   resume_left k l m =
-      ap (λ x. record { clock = clock; started = started; standings = x })
-      (seated_set places seats k (resume_seat (get_or seats k new_seat)) (omega arith) m
-      ∙ ap (λ x. set (seated places seats) k (stands x.position (resume_seat x.seat))) (sym (standing_is k l)))
+      set_left k (resume_seat (get_or seats k new_seat)) l m
+      ∙ ap (λ x. record { clock = clock; started = started; standings = set (seated places seats) k (resume_one x) }) (sym (standing_is k l))
 
-  -- a call that is not refused: what its checks said
-  pub release_known : (k : ℕ) → release_fault ts (state_of clock started places seats) k ≡ None → (k < length ts) × (length ts ≤ 64)
-  release_known k e =
-      let a = both_clear (unstarted_fault started (length ts)) _ e in
-      (number_known k (both_clear (no_task_fault (length ts) k) _ a.1).0, seats_enough started (length ts) (when_clear _ _ a.0))
-
-  pub resume_known : (k : ℕ) → resume_fault ts (state_of clock started places seats) k ≡ None → (k < length ts) × (length ts ≤ 64)
-  resume_known k e =
+  -- a call for a task that is not refused: what the first two checks said, whatever the third is
+  pub task_known : (k : ℕ) (third : Option Denial) → option_or (unstarted_fault started (length ts)) (option_or (no_task_fault (length ts) k) third) ≡ None
+      → (k < length ts) × (length ts ≤ 64)
+  task_known k third e =
       let a = both_clear (unstarted_fault started (length ts)) _ e in
       (number_known k (both_clear (no_task_fault (length ts) k) _ a.1).0, seats_enough started (length ts) (when_clear _ _ a.0))
 

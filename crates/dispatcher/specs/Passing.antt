@@ -1,5 +1,5 @@
 -- A tick, task by task. Assumes nothing.
-use Rattle.std.specs.Prelude.{◌≡◌, ℕ, ◌<◌, ◌≤◌, Bool, List, [], ◌∷◌, length, get_or, Some, None, Option, slice_index_or, slice_set}
+use Rattle.std.specs.Prelude.{◌≡◌, ℕ, ◌<◌, ◌≤◌, Bool, List, [], ◌∷◌, length, Some, None, Option, slice_index_or, slice_set}
 use Rattle.group.specs.Task.{Task, at, place}
 use Rattle.dispatcher.specs.declared.slot.Seat.{Seat}
 use Rattle.dispatcher.specs.Slots.{way_of}
@@ -21,5 +21,5 @@ pub record Passed (ts : List Task) (clock : ℕ) (mark : Bool) (ran : Option ℕ
   pub seat : (i : ℕ) → i < n → slice_index_or seats' i new_seat ≡ tick_seat (at ts i) clock (is_running ran i) mark (slice_index_or seats i new_seat)
   pub seat_left : (i : ℕ) → n ≤ i → slice_index_or seats' i new_seat ≡ slice_index_or seats i new_seat
   pub places_long : length places' ≡ length places
-  pub moved : (i : ℕ) → i < n → place places' i ≡ settled_place (at ts i) (way_of (at ts i) clock (is_running ran i) mark (get_or seats i new_seat).slot) (place places i)
+  pub moved : (i : ℕ) → i < n → place places' i ≡ settled_place (at ts i) (way_of (at ts i) clock (is_running ran i) mark (slice_index_or seats i new_seat).slot) (place places i)
   pub left : (i : ℕ) → n ≤ i → place places' i ≡ place places i

@@ -18,6 +18,10 @@ unstarted_fault started count = when (not (started && nat_le count 64)) (denied 
 abbrev pub no_task_fault : (count k : ℕ) → Option Denial
 no_task_fault count k = when (nat_le count k) (denied NoTask 0 0)
 
+-- the seat of a task, once a start was accepted: refused by 14, 15
+abbrev pub known_answer : List Task → State → (k : ℕ) → Result Seat Denial
+known_answer ts s k = unless (option_or (unstarted_fault s.started (length ts)) (no_task_fault (length ts) k)) (standing s k).seat
+
 -- have fewer than gap ticks passed since the last accepted release?
 abbrev pub too_soon : (gap clock : ℕ) → Option ℕ → Bool
 too_soon gap clock None = false

@@ -118,6 +118,12 @@ way_with budget gap clock runs mark Empty = None
 way_with budget gap clock runs mark (Pending c r u) = ending runs mark budget gap (clock + 1 - r) (used_after runs u)
 way_with budget gap clock runs mark Halted = None
 
+-- The same of a slot whose job has run in the tick, if it is the one that runs.
+abbrev pub way_ran : (budget gap clock : ℕ) (runs mark : Bool) → Slot → Option Way
+way_ran budget gap clock runs mark Empty = None
+way_ran budget gap clock runs mark (Pending c r u) = ending runs mark budget gap (clock + 1 - r) u
+way_ran budget gap clock runs mark Halted = None
+
 -- the ticks used by the pending job, else 0
 abbrev pub used_of : Slot → ℕ
 used_of Empty = 0

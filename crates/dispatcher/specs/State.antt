@@ -6,7 +6,8 @@ use Rattle.bounds.specs.Bound.{sum}
 use Rattle.dispatcher.specs.declared.slot.Slot.{Slot}
 use Rattle.dispatcher.specs.declared.slot.Slot.TheVariants.{Empty}
 use Rattle.dispatcher.specs.declared.slot.Seat.{Seat}
-use Rattle.dispatcher.specs.declared.event.Event.TheVariants.{Release, Resume}
+use Rattle.dispatcher.specs.declared.event.Event.{Event}
+use Rattle.dispatcher.specs.declared.event.Event.TheVariants.{Release, Run, Finish, Expiry, Resume}
 use Rattle.dispatcher.specs.declared.end.Way.{Way}
 use Rattle.choose.specs.Foremost.{foremost}
 use Rattle.dispatcher.specs.Slots.{meets, is_pending, rank_of, outcome_of, way_of, tick_slot}
@@ -84,6 +85,17 @@ release_seat class clock seat = record { slot = meets seat.slot (Release class c
 -- a resume: the slot is empty again, and the gap still counts from the last release
 abbrev pub resume_seat : Seat → Seat
 resume_seat seat = record { slot = meets seat.slot Resume; last = seat.last }
+
+-- a release or a resume, as the event that it is: a release is noted with its clock
+abbrev pub last_after : Event → Option ℕ → Option ℕ
+last_after (Release class clock) last = Some clock
+last_after Run last = last
+last_after Finish last = last
+last_after (Expiry tolerated) last = last
+last_after Resume last = last
+
+abbrev pub meets_seat : Event → Seat → Seat
+meets_seat event seat = record { slot = meets seat.slot event; last = last_after event seat.last }
 
 -- a tick
 abbrev pub tick_seat : Task → (clock : ℕ) (runs mark : Bool) → Seat → Seat

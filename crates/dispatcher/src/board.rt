@@ -10,6 +10,8 @@ pub struct Dispatcher<G> {
     pub(crate) group: G,
     pub(crate) table: Table,
     pub(crate) clock: u32,
+    // A flag, and no type of its own for each state: a start goes by `&mut self`, and what it turns is this alone. The rest is read
+    // either way.
     pub(crate) started: bool,
     ghost steady: { Steady table.seats clock },
 }

@@ -2,46 +2,57 @@
 ghost use Rattle.std.specs.Prelude.{◌≡◌, ◌≤◌, OnErr};
 ghost use Rattle.group.specs.Task.{at, place};
 ghost use Rattle.dispatcher.specs.State.{released, resumed};
-ghost use Rattle.dispatcher.specs.Refusals.{release_fault, resume_fault, release_answer, resume_answer, kept_if};
+ghost use Rattle.dispatcher.specs.Refusals.{known_answer, release_fault, resume_fault, release_answer, resume_answer, kept_if};
 ghost use Rattle.dispatcher.specs.Questions.{view_of, slot_answer};
 ghost use Rattle.dispatcher.specs.Boards.{state};
 
 use crate::board::Dispatcher;
 use crate::checks::{check_halted, check_number, check_seat, check_started};
-use crate::slot::Slot;
+use crate::event::Event;
+use crate::slot::{Seat, Slot};
 use crate::view::View;
 use bounds::check_task;
 use denial::Denial;
 use group::Group;
 
-// A slot as it is seen at a clock.
-fn seen(slot: Slot, clock: u32) -> View
-    ensures { result ≡ view_of clock slot }
-{
-    match slot {
-        Slot::Empty => View::Empty,
-        Slot::Pending {
-            class,
-            released,
-            used,
-        } => View::Pending {
-            class,
-            age: clock.saturating_sub(released),
-            used,
-        },
-        Slot::Halted => View::Halted,
+impl Slot {
+    // As it is seen at a clock.
+    fn seen(self, clock: u32) -> View
+        ensures { result ≡ view_of clock self }
+    {
+        match self {
+            Slot::Empty => View::Empty,
+            Slot::Pending {
+                class,
+                released,
+                used,
+            } => View::Pending {
+                class,
+                age: clock.saturating_sub(released),
+                used,
+            },
+            Slot::Halted => View::Halted,
+        }
     }
 }
 
 impl<G: Group> Dispatcher<G> {
-    // Why a release of a task is refused, if it is.
-    fn check_release(&self, task: u16) -> Result<(), Denial>
-        ensures { result ≡ release_answer (G.tasks self.now.group) (state G.places self.now) task }
+    // The seat of a task, once a start was accepted.
+    fn known(&self, task: u16) -> Result<Seat, Denial>
+        ensures { result ≡ known_answer (G.tasks self.now.group) (state G.places self.now) task }
     {
         let count = self.group.count();
         check_started(self.started, count)?;
         check_number(count, task)?;
-        check_seat(self.group.gap(task), self.clock, self.table.seat(task))
+        Ok(self.table.seat(task))
+    }
+
+    // Why a release of a task is refused, if it is.
+    fn check_release(&self, task: u16) -> Result<(), Denial>
+        ensures { result ≡ release_answer (G.tasks self.now.group) (state G.places self.now) task }
+    {
+        let seat = self.known(task)?;
+        check_seat(self.group.gap(task), self.clock, seat)
     }
 
     // The present class of a task.
@@ -59,12 +70,10 @@ impl<G: Group> Dispatcher<G> {
         ensures group { self.new.group ≡ self.old.group }
         ensures refused { OnErr result (self.new ≡ self.old) }
     {
-        if let Err(denial) = self.check_release(task) {
-            return Err(denial);
-        }
+        self.check_release(task)?;
         let class = self.class_now(task);
         let clock = self.clock;
-        self.table.release(task, class, clock);
+        self.table.meet(task, Event::Release { class, clock });
         Ok(())
     }
 
@@ -72,10 +81,8 @@ impl<G: Group> Dispatcher<G> {
     fn check_resume(&self, task: u16) -> Result<(), Denial>
         ensures { result ≡ resume_answer (G.tasks self.now.group) (state G.places self.now) task }
     {
-        let count = self.group.count();
-        check_started(self.started, count)?;
-        check_number(count, task)?;
-        check_halted(self.table.seat(task).slot)
+        let seat = self.known(task)?;
+        check_halted(seat.slot)
     }
 
     // Resumes a halted task; the gap still counts from its last release.
@@ -86,10 +93,8 @@ impl<G: Group> Dispatcher<G> {
         ensures group { self.new.group ≡ self.old.group }
         ensures refused { OnErr result (self.new ≡ self.old) }
     {
-        if let Err(denial) = self.check_resume(task) {
-            return Err(denial);
-        }
-        self.table.resume(task);
+        self.check_resume(task)?;
+        self.table.meet(task, Event::Resume);
         Ok(())
     }
 
@@ -98,6 +103,6 @@ impl<G: Group> Dispatcher<G> {
         ensures { result ≡ slot_answer (G.tasks self.now.group) (state G.places self.now) task }
     {
         check_task(&self.group, task)?;
-        Ok(seen(self.table.seat(task).slot, self.clock))
+        Ok(self.slot_at(task).seen(self.clock))
     }
 }

@@ -34,27 +34,14 @@ pub(crate) fn check_number(count: u16, task: u16) -> Result<(), Denial>
 fn is_too_soon(gap: u16, clock: u32, last: Option<u32>) -> bool
     ensures { result ≡ too_soon gap clock last }
 {
-    match last {
-        Some(at) => clock.saturating_sub(at) < u32::from(gap),
-        None => false,
-    }
-}
-
-// Whether a task is halted.
-pub(crate) fn halts(slot: Slot) -> bool
-    ensures { result ≡ is_halted slot }
-{
-    match slot {
-        Slot::Halted => true,
-        _ => false,
-    }
+    last.is_some_and(|at| clock.saturating_sub(at) < u32::from(gap))
 }
 
 // The task is halted, or was released too shortly before.
 pub(crate) fn check_seat(gap: u16, clock: u32, seat: Seat) -> Result<(), Denial>
     ensures { result ≡ unless (seat_fault gap clock seat) tt }
 {
-    if halts(seat.slot) {
+    if seat.slot == Slot::Halted {
         return Err(Rule::Halted.denies(0, 0));
     }
     if is_too_soon(gap, clock, seat.last) {
@@ -67,7 +54,7 @@ pub(crate) fn check_seat(gap: u16, clock: u32, seat: Seat) -> Result<(), Denial>
 pub(crate) fn check_halted(slot: Slot) -> Result<(), Denial>
     ensures { result ≡ unless (when (not (is_halted slot)) (denied NotHalted 0 0)) tt }
 {
-    if halts(slot) {
+    if slot == Slot::Halted {
         Ok(())
     } else {
         Err(Rule::NotHalted.denies(0, 0))

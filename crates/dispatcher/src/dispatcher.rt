@@ -6,15 +6,12 @@ ghost use Rattle.admission.specs.Start.{early_fault, start_fault, scratch_after,
 ghost use Rattle.dispatcher.specs.State.{new_seat};
 
 use crate::board::Dispatcher;
-use crate::seats::Table;
+use crate::seats::{SEATS, Table};
 use crate::slot::Seat;
 use admission::admit;
 use bounds::bound as bound_of;
 use denial::Denial;
 use group::Group;
-
-// How many tasks a dispatcher can serve.
-const SEATS: usize = 64;
 
 impl<G: Group> Dispatcher<G> {
     // A dispatcher over a group: the clock at 0, no job, and not started.
@@ -34,16 +31,6 @@ impl<G: Group> Dispatcher<G> {
         }
     }
 
-    // Judges a start, and marks the ranks in use.
-    fn judge(&self, scratch: &mut [u8]) -> Result<(), Denial>
-        ensures result { result ≡ unless (start_fault self.now.started (length scratch.old) (G.tasks self.now.group)) tt }
-        ensures scratch { scratch.new ≡ scratch_after (early_fault self.now.started (length scratch.old) (G.tasks self.now.group))
-            (G.tasks self.now.group) scratch.old }
-        ensures law { StartLaw self.now.started (length scratch.old) (G.tasks self.now.group) result }
-    {
-        admit(&self.group, self.started, scratch)
-    }
-
     // Starts the dispatcher, or refuses. The scratch, one byte for each rank, then holds the marks of the ranks in use,
     // unless the start was refused before it looked at ranks.
     pub fn start(&mut self, scratch: &mut [u8]) -> Result<(), Denial>
@@ -56,9 +43,7 @@ impl<G: Group> Dispatcher<G> {
         ensures clock { self.new.clock ≡ self.old.clock }
         ensures law { StartLaw self.old.started (length scratch.old) (G.tasks self.old.group) result }
     {
-        if let Err(denial) = self.judge(scratch) {
-            return Err(denial);
-        }
+        admit(&self.group, self.started, scratch)?;
         self.started = true;
         Ok(())
     }

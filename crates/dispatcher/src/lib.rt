@@ -8,7 +8,6 @@ mod checks;
 mod dispatcher;
 pub mod end;
 pub mod event;
-mod keys;
 mod machine;
 mod order;
 mod passing;
@@ -16,6 +15,7 @@ mod seating;
 mod seats;
 pub mod slot;
 mod tick;
+mod turn;
 pub mod view;
 
 pub use board::Dispatcher;

@@ -1,121 +1,136 @@
 // The slot machine: what each event makes of a slot, and what a tick does to its job.
 ghost use Rattle.std.specs.Prelude.{◌≡◌, ◌+◌, ◌<◌};
-ghost use Rattle.dispatcher.specs.Slots.{meets, ending, way_with, event_of, outcome_of, run_slot, end_slot, used_of, counted_to};
+ghost use Rattle.dispatcher.specs.Slots.{meets, is_pending, ending, way_ran, way_with, event_of, outcome_of, run_slot, end_slot, used_of, counted_to};
+ghost use Rattle.dispatcher.specs.State.{is_running};
 
 use crate::end::Way;
 use crate::event::Event;
 use crate::slot::Slot;
-use group::{Outcome, Terms};
+use crate::turn::{Tick, Turn};
+use group::Outcome;
 
-// What a slot is after an event. An event that has no place in a state leaves it as it is.
-pub(crate) fn meet(slot: Slot, event: Event) -> Slot
-    requires { counted_to event slot < 4294967296 }
-    ensures { result ≡ meets slot event }
-{
-    match (slot, event) {
-        (Slot::Empty, Event::Release { class, clock }) => Slot::Pending {
-            class,
-            released: clock,
-            used: 0,
-        },
-        (
-            Slot::Pending {
-                class,
-                released,
-                used,
-            },
-            Event::Run,
-        ) => Slot::Pending {
-            class,
-            released,
-            used: used + 1,
-        },
-        (Slot::Pending { .. }, Event::Finish) => Slot::Empty,
-        (Slot::Pending { .. }, Event::Expiry { tolerated }) => {
-            if tolerated { Slot::Empty } else { Slot::Halted }
+impl Way {
+    // What the end is to the slot: a miss counts as an expiry.
+    fn event(self, tolerated: bool) -> Event
+        ensures event { result ≡ event_of self tolerated }
+        ensures quiet { (slot : Slot) → counted_to result slot ≡ 0 }
+    {
+        match self {
+            Way::Finished => Event::Finish,
+            Way::Cut | Way::Late => Event::Expiry { tolerated },
         }
-        (Slot::Halted, Event::Resume) => Slot::Empty,
-        (same, _) => same,
-    }
-}
-
-// How a pending job ends in a tick, if it does.
-fn end_of(runs: bool, mark: bool, budget: u16, gap: u16, age: u32, used: u32) -> Option<Way>
-    ensures { result ≡ ending runs mark budget gap age used }
-{
-    if runs && mark {
-        Some(Way::Finished)
-    } else if runs && used == u32::from(budget) {
-        Some(Way::Cut)
-    } else if age == u32::from(gap) {
-        Some(Way::Late)
-    } else {
-        None
-    }
-}
-
-// What a way of ending is to the slot: a miss counts as an expiry.
-fn event_for(way: Way, tolerated: bool) -> Event
-    ensures event { result ≡ event_of way tolerated }
-    ensures quiet { (slot : Slot) → counted_to result slot ≡ 0 }
-{
-    match way {
-        Way::Finished => Event::Finish,
-        Way::Cut | Way::Late => Event::Expiry { tolerated },
     }
 }
 
 // And to the group.
-pub(crate) fn outcome_for(way: Way) -> Outcome
-    ensures { result ≡ outcome_of way }
-{
-    match way {
-        Way::Finished => Outcome::Finish,
-        Way::Cut | Way::Late => Outcome::Miss,
+impl From<Way> for Outcome {
+    ghost from_gives = { λ way outcome. outcome ≡ outcome_of way };
+
+    fn from(way: Way) -> Outcome {
+        match way {
+            Way::Finished => Outcome::Finish,
+            Way::Cut | Way::Late => Outcome::Miss,
+        }
+    }
+}
+
+impl Tick {
+    // The clock once the tick has passed.
+    pub(crate) fn end(self) -> u32
+        ensures { result ≡ self.clock + 1 }
+    {
+        self.clock + 1
+    }
+
+    // Whether a task is the one that runs.
+    pub(crate) fn runs(self, task: u16) -> bool
+        ensures { result ≡ is_running self.ran task }
+    {
+        self.ran == Some(task)
+    }
+}
+
+impl Turn {
+    // How a pending job of this age, which ran in so many ticks, ends in the tick, if it does.
+    fn end_of(self, age: u32, used: u32) -> Option<Way>
+        ensures { result ≡ ending self.runs self.tick.mark self.terms.budget self.gap age used }
+    {
+        if self.runs && self.tick.mark {
+            Some(Way::Finished)
+        } else if self.runs && used == u32::from(self.terms.budget) {
+            Some(Way::Cut)
+        } else if age == u32::from(self.gap) {
+            Some(Way::Late)
+        } else {
+            None
+        }
     }
 }
 
 impl Slot {
-    // How the job ends in the tick after `clock`, if there is one and it does.
-    fn way(&self, clock: u32, runs: bool, mark: bool, gap: u16, budget: u16) -> Option<Way>
-        requires { (clock < 4294967295) × (used_of self.now < 4294967295) }
-        ensures { result ≡ way_with budget gap clock runs mark self.now }
+    // Whether a job is pending.
+    pub(crate) fn is_pending(self) -> bool
+        ensures { result ≡ is_pending self }
     {
-        match *self {
+        matches!(self, Slot::Pending { .. })
+    }
+
+    // What the slot is after an event. An event that has no place in a state leaves it as it is.
+    pub(crate) fn meet(self, event: Event) -> Slot
+        requires { counted_to event self < 4294967296 }
+        ensures { result ≡ meets self event }
+    {
+        match (self, event) {
+            (Slot::Empty, Event::Release { class, clock }) => Slot::Pending {
+                class,
+                released: clock,
+                used: 0,
+            },
+            (
+                Slot::Pending {
+                    class,
+                    released,
+                    used,
+                },
+                Event::Run,
+            ) => Slot::Pending {
+                class,
+                released,
+                used: used + 1,
+            },
+            (Slot::Pending { .. }, Event::Finish) => Slot::Empty,
+            (Slot::Pending { .. }, Event::Expiry { tolerated }) => {
+                if tolerated { Slot::Empty } else { Slot::Halted }
+            }
+            (Slot::Halted, Event::Resume) => Slot::Empty,
+            (same, _) => same,
+        }
+    }
+
+    // How the job ends in a tick, in which it has run if it is the one that does.
+    fn way(self, turn: Turn) -> Option<Way>
+        ensures { result ≡ way_ran turn.terms.budget turn.gap turn.tick.clock turn.runs turn.tick.mark self }
+    {
+        match self {
             Slot::Pending { released, used, .. } => {
-                let spent = if runs { used + 1 } else { used };
-                end_of(
-                    runs,
-                    mark,
-                    budget,
-                    gap,
-                    (clock + 1).saturating_sub(released),
-                    spent,
-                )
+                turn.end_of(turn.tick.end().saturating_sub(released), used)
             }
             _ => None,
         }
     }
 
     // Lets a tick pass: the job runs, if it is the one that does, and ends, if it comes to that.
-    pub(crate) fn pass(
-        &mut self,
-        clock: u32,
-        runs: bool,
-        mark: bool,
-        gap: u16,
-        terms: Terms,
-    ) -> Option<Way>
-        requires { (clock < 4294967295) × (used_of self.old < 4294967295) }
-        ensures way { result ≡ way_with terms.budget gap clock runs mark self.old }
-        ensures slot { self.new ≡ end_slot (run_slot runs self.old) result terms.tolerated }
+    pub(crate) fn pass(&mut self, turn: Turn) -> Option<Way>
+        requires { used_of self.old < 4294967295 }
+        ensures way { result ≡ way_with turn.terms.budget turn.gap turn.tick.clock turn.runs turn.tick.mark self.old }
+        ensures slot { self.new ≡ end_slot (run_slot turn.runs self.old) result turn.terms.tolerated }
     {
-        let way = self.way(clock, runs, mark, gap, terms.budget);
-        if runs {
-            *self = meet(*self, Event::Run);
+        if turn.runs {
+            *self = self.meet(Event::Run);
         }
+        let way = self.way(turn);
         if let Some(ended) = way {
-            *self = meet(*self, event_for(ended, terms.tolerated));
+            *self = self.meet(ended.event(turn.terms.tolerated));
         }
         way
     }

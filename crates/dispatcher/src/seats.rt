@@ -3,8 +3,11 @@ ghost use Rattle.dispatcher.specs.Steady.{Sized};
 
 use crate::slot::Seat;
 
+// How many tasks a dispatcher can serve.
+pub(crate) const SEATS: usize = 64;
+
 #[derive(Drop)]
 pub struct Table {
-    pub(crate) seats: [Seat; 64],
+    pub(crate) seats: [Seat; SEATS],
     ghost sized: { Sized seats },
 }

@@ -1,7 +1,6 @@
 // The tick.
-ghost use Rattle.std.specs.Prelude.{◌≡◌, ◌+◌, length, if◌then◌else◌, OnErr};
+ghost use Rattle.std.specs.Prelude.{◌≡◌, ◌+◌, length, OnErr};
 ghost use Rattle.denial.specs.Checks.{unless};
-ghost use Rattle.dispatcher.specs.Slots.{is_pending};
 ghost use Rattle.dispatcher.specs.State.{pending_count};
 ghost use Rattle.dispatcher.specs.Refusals.{tick_fault};
 ghost use Rattle.dispatcher.specs.Records.{tick_answer, tick_state, tick_ends, Listed};
@@ -11,30 +10,18 @@ use crate::board::Dispatcher;
 use crate::checks::{check_room, check_started};
 use crate::end::End;
 use crate::passing::pass_all;
-use crate::slot::Slot;
+use crate::turn::Tick;
 use denial::Denial;
 use group::Group;
-
-// 1 for a pending job, else 0.
-fn one_pending(slot: Slot) -> usize
-    ensures { result ≡ (if is_pending slot then 1 else 0) }
-{
-    match slot {
-        Slot::Pending { .. } => 1,
-        _ => 0,
-    }
-}
 
 impl<G: Group> Dispatcher<G> {
     // How many jobs are pending.
     fn pending(&self) -> usize
         ensures { result ≡ pending_count (G.tasks self.now.group) (state G.places self.now) }
     {
-        let mut count = 0;
-        for task in 0..self.group.count() {
-            count += one_pending(self.table.seat(task).slot);
-        }
-        count
+        (0..self.group.count())
+            .filter(|task| self.slot_at(*task).is_pending())
+            .count()
     }
 
     // Why a tick is refused, if it is.
@@ -55,13 +42,15 @@ impl<G: Group> Dispatcher<G> {
             (tick_ends (G.tasks self.old.group) (state G.places self.old) finish) ends.old ends.new }
         ensures refused { OnErr result (self.new ≡ self.old) }
     {
-        if let Err(denial) = self.check_tick(finish, ends.len()) {
-            return Err(denial);
-        }
+        self.check_tick(finish, ends.len())?;
         let ran = self.next_to_run();
-        let clock = self.clock;
-        let count = pass_all(&mut self.group, &mut self.table, clock, ran, finish, ends);
-        self.clock = clock + 1;
+        let tick = Tick {
+            clock: self.clock(),
+            ran,
+            mark: finish,
+        };
+        let count = pass_all(&mut self.group, &mut self.table, tick, ends);
+        self.clock = tick.end();
         Ok((ran, count))
     }
 }

@@ -7,8 +7,8 @@ use Rattle.dispatcher.proofs.passing.pass_all.Given as goal
 abbrev pub invariant-loop-task : goal.invariant-loop-task
 invariant-loop-task g l =
     let ts = g.G.Group.tasks l.initial.group in
-    let s = state_of l.clock true (g.G.Group.places l.initial.group) l.initial.table.seats in
+    let s = state_of l.tick.clock true (g.G.Group.places l.initial.group) l.initial.table.seats in
     (g.G.Group.tasks l.group ≡ ts)
-    × Passed ts l.clock l.mark l.ran l.task l.initial.table.seats l.table.seats (g.G.Group.places l.initial.group) (g.G.Group.places l.group)
-    × (l.count ≡ length (ends_upto ts s l.mark l.ran l.task))
-    × (l.ends ≡ ends_upto ts s l.mark l.ran l.task ++ drop l.count l.initial.ends)
+    × Passed ts l.tick.clock l.tick.mark l.tick.ran l.task l.initial.table.seats l.table.seats (g.G.Group.places l.initial.group) (g.G.Group.places l.group)
+    × (l.count ≡ length (ends_upto ts s l.tick.mark l.tick.ran l.task))
+    × (l.ends ≡ ends_upto ts s l.tick.mark l.tick.ran l.task ++ drop l.count l.initial.ends)

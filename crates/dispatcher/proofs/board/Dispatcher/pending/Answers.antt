@@ -1,23 +1,17 @@
-use Rattle.std.proofs.Common.{◌≡◌, ◌<◌, ◌≤◌, Bool, true, false, cond, length, ap, ◌∙◌, arith}
-use Rattle.bounds.proofs.Grows.{sum_more}
-use Rattle.dispatcher.specs.Slots.{is_pending}
-use Rattle.dispatcher.specs.State.{state_of, slot_of}
-use Rattle.dispatcher.proofs.Released.{seen_is}
+use Rattle.std.proofs.Common.{◌≡◌, ◌-◌, length, ◌∙◌, rules, tests, arith}
+use Rattle.std.proofs.lemmas.Iterator.{YieldsList-from_range}
+use Rattle.std.proofs.lemmas.Iterator.Consumers.{count_from_yields_List, YieldsList-at, YieldsList-from_filter}
+use Rattle.dispatcher.specs.State.{state_of, waits}
+use Rattle.dispatcher.proofs.Counts.{counted}
 use Rattle.dispatcher.proofs.board.Dispatcher.pending.Goals as goal
 
-at_most_one : (b : Bool) → cond b 1 0 ≤ 1
-at_most_one true = omega arith
-at_most_one false = omega arith
-
-pub loop-task-preserved : goal.loop-task-preserved
-loop-task-preserved g c =
+pub returns : goal.returns
+returns g c =
     let d = c.args.self.now in
-    let ts = g.G.Group.tasks d.group in
-    let ps = g.G.Group.places d.group in
-    let s = state_of d.clock d.started ps d.table.seats in
-    let l : c.loop-task.task < length ts = omega arith in
-    let e = seen_is ts d.clock d.started ps d.table.seats (g.met.G.Group.placed d.group) c.loop-task.task l c.seat.result.slot (ap (λ x. x.slot) c.seat.ensures) in
-    let o : c.one_pending-count.result ≡ cond (is_pending (slot_of s c.loop-task.task)) 1 0 = c.one_pending-count.ensures ∙ ap (λ x. cond (is_pending x) 1 0) e in
-    let m = sum_more c.loop-task.task (λ i. cond (is_pending (slot_of s i)) 1 0) in
-    let q = at_most_one (is_pending (slot_of s c.loop-task.task)) in
-    (omega (arith, o, m, c.loop-task.invariant.0), omega (arith, o, q, c.loop-task.invariant.1))
+    let n = length (g.G.Group.tasks d.group) in
+    let s = state_of d.clock d.started (g.G.Group.places d.group) d.table.seats in
+    let e : c.count.result - 0 ≡ n = omega (arith, c.count.ensures) in
+    count_from_yields_List c.filter.result c.count-2.result c.count-2.ensures.ran
+    (YieldsList-from_filter _ (waits s) (YieldsList-at c.filter.ensures.source (YieldsList-from_range 0 c.count.result n (cc) e)) c.filter.ensures.closure
+    (λ x b q k. search (rules, tests)))
+    ∙ counted (waits s) n
