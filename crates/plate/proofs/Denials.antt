@@ -1,6 +1,7 @@
 -- How the parts of a row, as they are read, make up its first fault.
-use Rattle.std.proofs.Common.{◌≡◌, ℕ, ◌+◌, ◌*◌, ◌/◌, ◌%◌, ◌<◌, ◌≤◌, not, eqb, List, length, get_or, take, drop, Some, None, Option, sym, arith}
+use Rattle.std.proofs.Common.{◌≡◌, ℕ, ◌+◌, ◌-◌, ◌*◌, ◌/◌, ◌%◌, ◌<◌, ◌≤◌, not, eqb, List, length, get_or, take, drop, Some, None, Option, sym, arith}
 use Rattle.std.specs.Option.{option_or}
+use Rattle.std.proofs.lemmas.List.{take_rest, length-drop}
 use Rattle.std.proofs.lemmas.Bool.{le-ltb}
 use Rattle.denial.specs.declared.Denial.{Denial}
 use Rattle.denial.specs.declared.Rule.TheVariants.{Edition}
@@ -67,3 +68,7 @@ unfolding header_denial
 header_whole bs long h l =
     let e = header_counts bs h l in
     rw (le-ltb (length bs) 2 long, e.0, e.1, e.2)
+
+-- the header ends where the rest begins
+pub header_ends : (bs : List ℕ) → 2 ≤ length bs → 8 * (length bs - length (take (length bs - 2) (drop 2 bs))) ≡ 16
+header_ends bs h = rw (take_rest bs 2) (omega (arith, length-drop 2 bs))

@@ -54,6 +54,7 @@ pub(crate) fn first_spare(bytes: &[u8]) -> Option<usize>
 }
 
 // Frame i, and a frame of zeros past the last.
+#[tactic(auto, using(crate::proofs::Frames::frame_or))]
 fn frame_or_zeros(bytes: &[u8], i: u16) -> Frame
     ensures { result ≡ frame_at (frames_of bytes.now) i }
 {
@@ -68,6 +69,7 @@ pub fn unpack(bytes: &[u8]) -> [Frame; 8]
 }
 
 // Frame i of the frame bytes of a row, i from 0; none past the last.
+#[tactic(auto, using(crate::proofs::Frames::frames_length, crate::proofs::Frames::frames_at))]
 pub fn nth_frame(bytes: &[u8], i: u16) -> Option<Frame>
     ensures { MatchOption result (length (frames_of bytes.now) ≤ i)
         (λ f. (i < length (frames_of bytes.now)) × (f ≡ frame_at (frames_of bytes.now) i)) }

@@ -121,6 +121,7 @@ impl FramedHead {
 }
 
 // The frames of a row, from their bytes, keep its rules.
+#[tactic(auto, using(crate::proofs::Frames::frames_length, crate::proofs::Frames::padded_few))]
 fn check_unpacked(start: RowStart, gap: u16, bytes: &[u8]) -> Result<(), Denial>
     requires { length bytes.now ≤ 24 }
     ensures { result ≡ unless (framed_fault start.row start.place gap (frames_of bytes.now)) tt }

@@ -10,6 +10,7 @@ use super::start::RowStart;
 use denial::Denial;
 
 // Refuses a miss-counted row by its first fault, as row 0 from bit 0 on. A row that is not refused keeps the rules of its kind.
+#[tactic(auto, using(crate::proofs::Counteds::fault_sound))]
 pub fn check_miss_counted(gap: u16, budget: u16, ranks: &[u8]) -> Result<(), Denial>
     ensures value { result ≡ unless (counted_fault 0 0 gap budget ranks.now) tt }
     ensures sound { OnOk result (SoundCounted (record { gap = gap; budget = budget; ranks = ranks.now })) }
@@ -18,6 +19,7 @@ pub fn check_miss_counted(gap: u16, budget: u16, ranks: &[u8]) -> Result<(), Den
 }
 
 // Refuses a frame row by its first fault, as row 0 from bit 0 on. A row that is not refused keeps the rules of its kind.
+#[tactic(auto, using(crate::proofs::Frameds::fault_sound))]
 pub fn check_frames(gap: u16, frames: &[Frame]) -> Result<(), Denial>
     ensures value { result ≡ unless (framed_fault 0 0 gap frames.now) tt }
     ensures sound { OnOk result (SoundFramed (record { gap = gap; frames = frames.now })) }

@@ -70,6 +70,7 @@ fn pack(frames: &[Frame]) -> [u8; 24]
 }
 
 // Fills a part whole: the fixed bytes of a row, and then its rank or frame bytes.
+#[tactic(auto, using(crate::proofs::Puts::filled))]
 fn fill(part: &mut [u8], front: &[u8], rest: &[u8])
     requires { length part.old ≡ length front.now + length rest.now }
     ensures { part.new ≡ front.now ++ rest.now }
@@ -113,6 +114,7 @@ pub fn write_header(out: &mut [u8], counted: u8, framed: u8) -> Result<usize, De
 }
 
 // Writes a miss-counted row from byte `at` on: the byte after it, or its fault as if it stood alone, or 8.
+#[tactic(auto, using(crate::proofs::Written::counted_written))]
 pub fn write_miss_counted(
     out: &mut [u8],
     at: usize,
@@ -130,6 +132,7 @@ pub fn write_miss_counted(
 }
 
 // Writes a frame row from byte `at` on: the byte after it, or its fault as if it stood alone, or 8.
+#[tactic(auto, using(crate::proofs::Written::framed_written))]
 pub fn write_frames(out: &mut [u8], at: usize, gap: u16, frames: &[Frame]) -> Result<usize, Denial>
     ensures result { result ≡ unless (option_or (framed_fault 0 0 gap frames.now)
         (room_fault (length out.old) at (2 + 3 * length frames.now))) (at + (2 + 3 * length frames.now)) }
