@@ -13,7 +13,7 @@ pub fn foremost<K: Ord + Copy>(keys: &[Option<K>]) -> Option<usize>
 {
     keys.iter()
         .enumerate()
-        .filter_map(|(place, key)| key.map(|key| (key, place)))
-        .min()
-        .map(|(_, place)| place)
+        .filter_map(|(place, key)| key.map(|key| (place, key)))
+        .min_by_key(|(_, key)| *key)
+        .map(|(place, _)| place)
 }

@@ -86,7 +86,7 @@ release_seat class clock seat = record { slot = meets seat.slot (Release class c
 abbrev pub resume_seat : Seat → Seat
 resume_seat seat = record { slot = meets seat.slot Resume; last = seat.last }
 
--- a release or a resume, as the event that it is: a release is noted with its clock
+-- the clock of the last release, once the task met an event
 abbrev pub last_after : Event → Option ℕ → Option ℕ
 last_after (Release class clock) last = Some clock
 last_after Run last = last
@@ -94,6 +94,7 @@ last_after Finish last = last
 last_after (Expiry tolerated) last = last
 last_after Resume last = last
 
+-- the seat, once its task met an event
 abbrev pub meets_seat : Event → Seat → Seat
 meets_seat event seat = record { slot = meets seat.slot event; last = last_after event seat.last }
 

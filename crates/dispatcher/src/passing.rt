@@ -50,8 +50,8 @@ fn pass_task<G: Group>(group: &mut G, table: &mut Table, tick: Tick, task: u16) 
     })
 }
 
-// Puts a record, if there is one, behind those that the list has: how many it has then. The list is the caller's, and the tick
-// answers with the count: a struct of both would stand for this one loop only.
+// Puts a record, if there is one, behind those that the list has: how many it has then. List and count stay apart: the one is the
+// caller's and the other the tick's answer, so a struct of both would be made and taken apart for the one loop below.
 fn note(ends: &mut [End], count: usize, end: Option<End>) -> usize
     requires { count + length (listed end) ≤ length ends.old }
     ensures count { result ≡ count + length (listed end) }
@@ -66,7 +66,8 @@ fn note(ends: &mut [End], count: usize, end: Option<End>) -> usize
     }
 }
 
-// Lets a tick pass for every task: how many records stand at the front of the list.
+// Lets a tick pass for every task: how many records stand at the front of the list. Group and table by themselves, and no method
+// of the dispatcher: while the tick passes, the seats are between two clocks.
 pub(crate) fn pass_all<G: Group>(
     group: &mut G,
     table: &mut Table,
