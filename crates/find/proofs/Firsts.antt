@@ -1,8 +1,7 @@
 -- A search answers what it says, and nothing else would be right.
-use Rattle.std.proofs.Common.{◌≡◌, ℕ, zero, suc, ◌+◌, ◌<◌, Bool, true, false, cond, ◌⊎◌, List, length, get_or, position, Some, None, Option, sym, refl, ap, ◌∙◌, inl, inr, add-one, arith}
+use Rattle.std.proofs.Common.{◌≡◌, ℕ, zero, suc, ◌+◌, ◌<◌, Bool, true, false, cond, ◌⊎◌, Some, None, Option, sym, refl, ap, ◌∙◌, inl, inr, add-one, arith}
 use Rattle.std.specs.Option.{option_or, option_map}
-use Rattle.std.proofs.lemmas.Bool.{cases_order, both_ways, lt-ltb, le-ltb}
-use Rattle.std.proofs.lemmas.List.Sums.{position_or_len_is}
+use Rattle.std.proofs.lemmas.Bool.{cases_order, both_ways}
 use Rattle.find.specs.First.{first, first_pair, Searched, SearchedPair}
 
 last_or_below : (j n : ℕ) → j < suc n → (j ≡ n) ⊎ (j < n)
@@ -94,17 +93,3 @@ pair_is f m limit o s = same (first_pair f m limit) o (pair_says f m limit) s
             let p' : Searched (f k) (limit k) (Some j) = rw e at p.2 in
             let d : j ≡ l = level k j l p' q.2 in
             cc
-
--- the first item of a list that passes, by its index
-pub position_first : {X : Type 0} (p : X → Bool) (xs : List X) (d : X) → position p xs ≡ first (λ i. p (get_or xs i d)) (length xs)
-position_first p xs d = is _ (first_says (λ i. p (get_or xs i d)) (length xs))
-  where
-    is : (o : Option ℕ) → Searched (λ i. p (get_or xs i d)) (length xs) o → position p xs ≡ o
-    is None s = rw (position_or_len_is p xs (length xs) d (omega arith) s (λ l. absurd (omega arith)), le-ltb (length xs) (length xs) (omega arith))
-    is (Some i) s = rw (position_or_len_is p xs i d (omega (arith, s.0)) s.2 (λ l. s.1), lt-ltb i (length xs) s.0)
-
--- two tests that agree below n
-pub first_alike : (f g : ℕ → Bool) (n : ℕ) → ((i : ℕ) → i < n → f i ≡ g i) → first f n ≡ first g n
-unfolding first
-first_alike f g zero h = refl
-first_alike f g (suc n) h = rw (first_alike f g n (λ i l. h i (omega arith)), h n (omega arith))

@@ -11,6 +11,7 @@ pub fn first_of<F: Fn(usize) -> bool>(count: usize, passes: F) -> Option<usize>
     ensures value { (test : ℕ → Bool) → Agrees (F.post passes) count test → result ≡ first test count }
     ensures says { (test : ℕ → Bool) → Agrees (F.post passes) count test → Searched test count result }
 {
+    // No `(0..count).find(..)`: it was tried, and the proof that `passes` may be called there did not close.
     for i in 0..count {
         if passes(i) {
             return Some(i);

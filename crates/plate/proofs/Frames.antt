@@ -68,7 +68,7 @@ padded_at fs gs n h = ext_get_or zeros gs (padded fs) (n ∙ sym size) (λ i l. 
         ∙ elim (cases_lt i (length fs)) [
           | inl h ↦ get_or_append_left fs (replicate 8 zeros) zeros i h
           | inr h ↦ get_or-append_right fs (replicate 8 zeros) (length fs) i zeros refl h
-                ∙ get_or-replicate 8 (i - length fs) zeros zeros (omega arith) ∙ sym (get_or_past fs i zeros h)
+              ∙ get_or-replicate 8 (i - length fs) zeros zeros (omega arith) ∙ sym (get_or_past fs i zeros h)
         ]
 
 -- at most eight of them are all there

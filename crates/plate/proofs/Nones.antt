@@ -1,5 +1,5 @@
 -- What it means that nothing is at fault.
-use Rattle.std.proofs.Common.{◌≡◌, ℕ, zero, suc, ◌<◌, Bool, true, false, cond, ◌||◌, eqb, ltb, OnOk, Some, None, Ok, Err, Option, Result, refl, inl, inr, arith}
+use Rattle.std.proofs.Common.{◌≡◌, ℕ, zero, suc, ◌<◌, Bool, true, false, cond, ◌||◌, eqb, ltb, Some, None, Ok, Err, Option, refl, inl, inr, arith}
 use Rattle.std.specs.Option.{option_or, option_map}
 use Rattle.std.proofs.lemmas.Bool.{cases_order, or_parts, or_from, ltb-false, eqb-false, le-ltb, ne_eqb}
 use Rattle.denial.specs.declared.Denial.{Denial}
@@ -59,8 +59,3 @@ unless_ok (Some d) x h e = let z : ◌≡◌ {A = ℕ} 0 1 = cc in absurd (omega
 pub unless_err : {A : Type 0} (o : Option Denial) (x : A) (d : Denial) → Err d ≡ unless o x → o ≡ Some d
 unless_err None x d e = let z : ◌≡◌ {A = ℕ} 0 1 = cc in absurd (omega arith)
 unless_err (Some c) x d e = cc
-
--- what follows where there is no fault
-pub unless_fault : {A : Type 0} (o : Option Denial) (x : A) (r : Result A Denial) (P : Type 0) → r ≡ unless o x → (o ≡ None → P) → OnOk r P
-unless_fault o x (Ok h) P e f = f (unless_ok o x h e).0
-unless_fault o x (Err d) P e f = tt

@@ -1,5 +1,5 @@
 -- One step of a reader, past the header.
-use Rattle.std.proofs.Common.{◌≡◌, ℕ, ◌+◌, ◌-◌, ◌%◌, ◌<◌, ◌≤◌, cond, ltb, List, Some, None, Ok, Err, Option, Result, sym, subst, inl, inr, arith}
+use Rattle.std.proofs.Common.{◌≡◌, ℕ, ◌+◌, ◌-◌, ◌<◌, ◌≤◌, cond, ltb, List, Some, None, Ok, Err, Option, Result, sym, subst, inl, inr, arith}
 use Rattle.std.proofs.lemmas.Bool.{lt-ltb, le-ltb, cond_both, cases_lt}
 use Rattle.denial.specs.declared.Denial.{Denial}
 use Rattle.plate.specs.Rows.{counted_bits, counted_denial, framed_bits, framed_denial}
@@ -17,27 +17,51 @@ after_place bs s l =
     cond_both (ltb 0 s.counted) _ _ (λ (t : State). 0 < t.place) (λ _. omega arith)
     (λ _. cond_both (ltb 0 s.framed) _ _ (λ (t : State). 0 < t.place) (λ _. omega arith) (λ _. l))
 
--- after a row all is kept: it takes so many bits
-pub kept_counted : (bs : List ℕ) (s : State) (place : ℕ) → Kept s → 0 < s.counted → place ≡ s.place + counted_bits bs s.place
-    → Kept (record { place = place; row = s.row + 1; counted = s.counted - 1; framed = s.framed })
-kept_counted bs s place k l e =
+-- what a reader does at a row
+pub record Step (bs : List ℕ) (s t : State) (h : Handed) : Type 0 where
+  pub result : Ok (Some h) ≡ unless (row_denial bs s) (next_row bs s)
+  pub after : t ≡ after_row bs s
+  pub kept : Kept t
+
+pub step_counted : (bs : List ℕ) (s t : State) (h : Handed) (place : ℕ) → 0 < s.counted → Kept s
+    → Ok h ≡ unless (counted_denial bs s.place s.row) (counted_here bs s.place)
+    → place ≡ s.place + counted_bits bs s.place
+    → t ≡ record { place = place; row = s.row + 1; counted = s.counted - 1; framed = s.framed }
+    → Step bs s t h
+step_counted bs s t h place l k e m w =
+    let test = lt-ltb 0 s.counted l in
+    let got = unless_ok (counted_denial bs s.place s.row) (counted_here bs s.place) h e in
     let low = field_low bs (s.place + 24) 3 3 (omega arith) in
     record {
-      aligned = omega (arith, k.aligned);
-      within = omega (arith, k.within);
-      few = omega (arith, k.few);
-      counts = (omega (arith, k.counts), k.counts.1);
+      result = rw (test, got.0, got.1);
+      after = rw (test, w, m);
+      kept = rw (w, m) (record {
+        aligned = omega (arith, k.aligned);
+        within = omega (arith, k.within);
+        few = omega (arith, k.few);
+        counts = (omega (arith, k.counts), omega (arith, k.counts));
+      });
     }
 
-pub kept_framed : (bs : List ℕ) (s : State) (place : ℕ) → Kept s → 0 < s.framed → place ≡ s.place + framed_bits bs s.place
-    → Kept (record { place = place; row = s.row + 1; counted = s.counted; framed = s.framed - 1 })
-kept_framed bs s place k l e =
+pub step_framed : (bs : List ℕ) (s t : State) (h : Handed) (place : ℕ) → s.counted ≤ 0 → 0 < s.framed → Kept s
+    → Ok h ≡ unless (framed_denial bs s.place s.row) (framed_here bs s.place)
+    → place ≡ s.place + framed_bits bs s.place
+    → t ≡ record { place = place; row = s.row + 1; counted = s.counted; framed = s.framed - 1 }
+    → Step bs s t h
+step_framed bs s t h place none l k e m w =
+    let skip = le-ltb 0 s.counted none in
+    let test = lt-ltb 0 s.framed l in
+    let got = unless_ok (framed_denial bs s.place s.row) (framed_here bs s.place) h e in
     let low = field_low bs (s.place + 12) 3 3 (omega arith) in
     record {
-      aligned = omega (arith, k.aligned);
-      within = omega (arith, k.within);
-      few = omega (arith, k.few);
-      counts = (k.counts.0, omega (arith, k.counts));
+      result = rw (skip, test, got.0, got.1);
+      after = rw (skip, test, w, m);
+      kept = rw (w, m) (record {
+        aligned = omega (arith, k.aligned);
+        within = omega (arith, k.within);
+        few = omega (arith, k.few);
+        counts = (omega (arith, k.counts), omega (arith, k.counts));
+      });
     }
 
 -- a row that is handed out keeps the rules of its kind

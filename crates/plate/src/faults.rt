@@ -20,6 +20,9 @@ pub(crate) fn check_spare(start: RowStart, bits: u16, spare: u16) -> Result<(), 
     Ok(())
 }
 
+// The limits of a gap, a budget and a number of classes. Each has the name of its rule and a type of its own: one function for all
+// would be the same comparison behind conversions.
+
 fn bad_gap(gap: u16) -> bool
     ensures { result ≡ bad_gap gap }
 {
@@ -49,6 +52,7 @@ fn first_bad_rank(ranks: &[u8]) -> Option<usize>
     ensures within { IfSome result (λ i. i < length ranks.now) }
     ensures value { result ≡ first (bad_rank ranks.now) (length ranks.now) }
 {
+    // By index, since a rank is held against its neighbour, and the first against itself.
     first_of(
         ranks.len(),
         |i| no_rank(ranks[i]) || ranks[i] < ranks[i.saturating_sub(1)],

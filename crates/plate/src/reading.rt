@@ -26,17 +26,6 @@ pub(crate) fn check_counts(counted: u8, framed: u8) -> Result<(), Denial>
     Ok(())
 }
 
-// Nothing stands after the last row.
-fn check_end(cursor: Cursor) -> Result<(), Denial>
-    requires { (cursor.place % 8 ≡ 0) × (cursor.place ≤ 4880) }
-    ensures { result ≡ unless (extra_fault cursor.entry.plate.now cursor.entry.place) tt }
-{
-    if cursor.place / 8 < cursor.plate.len() {
-        return Err(Rule::Extra.denies(255, cursor.place as u16));
-    }
-    Ok(())
-}
-
 // The header: edition 4 bits, number of miss-counted rows 6, number of frame rows 6. The rest is rows.
 #[tactic(auto, using(crate::proofs::Denials::header_whole, crate::proofs::Denials::header_counts), unfolding(crate::specs::Plans::header_denial))]
 fn header(plate: &[u8]) -> Result<Position<'_>, Denial>
@@ -93,6 +82,17 @@ impl<'a> Position<'a> {
         }
     }
 
+    // Nothing stands after the last row.
+    fn check_end(&self) -> Result<(), Denial>
+        ensures { result ≡ unless (extra_fault (plate_at self.now) (state_at self.now).place) tt }
+    {
+        let place = self.cursor.place;
+        if place / 8 < self.cursor.plate.len() {
+            return Err(Rule::Extra.denies(255, place as u16));
+        }
+        Ok(())
+    }
+
     // Past the header: the next row, or none after the last.
     fn advance(&mut self) -> Result<Option<Row<'a>>, Denial>
         ensures plate { plate_at self.new ≡ plate_at self.old }
@@ -111,7 +111,7 @@ impl<'a> Position<'a> {
             *self = self.past(cursor, self.counted, self.framed - 1);
             return Ok(Some(row));
         }
-        check_end(cursor)?;
+        self.check_end()?;
         Ok(None)
     }
 }
@@ -143,7 +143,7 @@ impl<'a> Reader<'a> {
             (opened (plate_of self.old) (state self.old)) (state self.old) }
     {
         let at = self.at.opened()?;
-        *self = Reader { at };
+        self.at = at;
         Ok(Counts {
             counted: at.counted,
             framed: at.framed,
@@ -162,7 +162,7 @@ impl<'a> Reader<'a> {
     {
         let mut at = self.at.opened()?;
         let row = at.advance()?;
-        *self = Reader { at };
+        self.at = at;
         Ok(row)
     }
 }

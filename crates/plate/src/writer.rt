@@ -10,7 +10,11 @@ ghost use Rattle.plate.specs.Writing.{put_at, room_fault, counted_front, framed_
 use super::frame::Frame;
 use super::reading::check_counts;
 use super::rules::{check_frames, check_miss_counted};
+use arrayvec::ArrayVec;
 use denial::{Denial, Rule};
+
+// The fixed bytes of a header and of the two kinds of row differ in their layout, so each has a function; `write_row` puts any of
+// them in.
 
 // The two bytes of a header.
 fn header_front(counted: u8, framed: u8) -> [u8; 2]
@@ -56,15 +60,18 @@ fn pack_one(frame: Frame) -> [u8; 3]
     ]
 }
 
-// The bytes of frames, in front of an array of 24.
-fn pack(frames: &[Frame]) -> [u8; 24]
+// The bytes of frames.
+fn pack(frames: &[Frame]) -> ArrayVec<u8, 24>
     requires few { length frames.now ≤ 8 }
     requires fit { (i : ℕ) → i < length frames.now → (frame_at frames.now i).budget ≤ 4095 }
-    ensures { take (3 * length frames.now) result ≡ flat_map bytes_of_frame frames.now }
+    ensures { result.items ≡ flat_map bytes_of_frame frames.now }
 {
-    let mut bytes = [0; 24];
-    for (i, frame) in frames.iter().enumerate() {
-        bytes[3 * i..3 * i + 3].copy_from_slice(&pack_one(*frame));
+    let mut bytes = ArrayVec::new();
+    for frame in frames {
+        let [a, b, c] = pack_one(*frame);
+        bytes.push(a);
+        bytes.push(b);
+        bytes.push(c);
     }
     bytes
 }
@@ -132,7 +139,7 @@ pub fn write_miss_counted(
 }
 
 // Writes a frame row from byte `at` on: the byte after it, or its fault as if it stood alone, or 8.
-#[tactic(auto, using(crate::proofs::Written::framed_written))]
+#[tactic(auto, using(crate::proofs::Written::framed_written, crate::proofs::Frameds::joined_length))]
 pub fn write_frames(out: &mut [u8], at: usize, gap: u16, frames: &[Frame]) -> Result<usize, Denial>
     ensures result { result ≡ unless (option_or (framed_fault 0 0 gap frames.now)
         (room_fault (length out.old) at (2 + 3 * length frames.now))) (at + (2 + 3 * length frames.now)) }
@@ -140,11 +147,5 @@ pub fn write_frames(out: &mut [u8], at: usize, gap: u16, frames: &[Frame]) -> Re
     ensures back { Then result (ReadsFramed out.new at (record { gap = gap; frames = frames.now })) }
 {
     check_frames(gap, frames)?;
-    let bytes = pack(frames);
-    write_row(
-        out,
-        at,
-        &framed_front(gap, frames.len()),
-        &bytes[0..3 * frames.len()],
-    )
+    write_row(out, at, &framed_front(gap, frames.len()), &pack(frames))
 }

@@ -1,4 +1,4 @@
-use Rattle.std.proofs.Common.{◌≡◌, ◌+◌, ◌*◌, ◌/◌, ◌%◌, ◌≤◌, length, get_or, refl, rules}
+use Rattle.std.proofs.Common.{◌+◌, ◌*◌, ◌/◌, ◌%◌, ◌≤◌, length, get_or, refl, rules}
 use Rattle.std.proofs.lemmas.Bool.{eq-eqb}
 use Rattle.plate.specs.Plans.{counts_fault}
 use Rattle.plate.proofs.Denials.{header_counts, header_whole, header_ends}
