@@ -4,6 +4,7 @@ use Rattle.std.specs.Option.{option_or}
 use Rattle.std.proofs.lemmas.List.{take_more, get_or-set_same, get_or-set_other, drop-set-lt, take-append-drop, length-take-le, get_or-take, get_or-replicate, length-replicate, length-append, get_or_append_left}
 use Rattle.std.proofs.lemmas.List.FromFn.{fill_by_all, length-map-range_with_len, get_or-map-range_with_len}
 use Rattle.std.proofs.lemmas.Bool.{cases_eq, eq-eqb, ne_eqb}
+use Rattle.std.proofs.Math.Bool.{or-false, false-or, or_assoc}
 use Rattle.find.specs.First.{first}
 use Rattle.group.specs.declared.meaning.Terms.{Terms}
 use Rattle.group.specs.Task.{Task, Class, at, terms_of, no_terms}
@@ -12,16 +13,8 @@ use Rattle.admission.specs.Ranks.{marked_byte, MarkedBy, HoldsMarks}
 
 -- one class more is used
 pub uses_last : (cs : List Terms) (c : Terms) (r : ℕ) → uses (cs ++ (c ∷ [])) r ≡ (uses cs r || eqb c.rank r)
-uses_last [] c r = last (eqb c.rank r)
-  where
-    last : (b : Bool) → (b || false) ≡ (false || b)
-    last true = refl
-    last false = refl
-uses_last (d ∷ cs) c r = ap (λ b. eqb d.rank r || b) (uses_last cs c r) ∙ assoc (eqb d.rank r) (uses cs r) (eqb c.rank r)
-  where
-    assoc : (x y z : Bool) → (x || (y || z)) ≡ ((x || y) || z)
-    assoc true y z = refl
-    assoc false y z = refl
+uses_last [] c r = or-false (eqb c.rank r) ∙ sym (false-or (eqb c.rank r))
+uses_last (d ∷ cs) c r = ap (λ b. eqb d.rank r || b) (uses_last cs c r) ∙ sym (or_assoc (eqb d.rank r) (uses cs r) (eqb c.rank r))
 
 pub uses_more : (cs : List Terms) (i r : ℕ) → i < length cs → uses (take (i + 1) cs) r ≡ (uses (take i cs) r || eqb (get_or cs i no_terms).rank r)
 uses_more cs i r l = ap (λ x. uses x r) (take_more cs i no_terms l) ∙ uses_last (take i cs) (get_or cs i no_terms) r

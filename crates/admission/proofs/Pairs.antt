@@ -5,7 +5,7 @@ use Rattle.std.specs.declared.cmp.Ordering.{Ordering}
 use Rattle.std.specs.declared.cmp.Ordering.TheVariants.{Less, Equal, Greater}
 use Rattle.std.specs.Ordering.{nat_cmp, ordering_then, min_by_ordering, MatchOrdering}
 use Rattle.std.specs.List.{range_with_len, fold, reduce, filter_map, cons_option, AllByRecursion}
-use Rattle.std.proofs.lemmas.Bool.{both_ways, cases_lt}
+use Rattle.std.proofs.lemmas.Bool.{both_ways, cases_lt, false_from_ne_true}
 use Rattle.std.proofs.lemmas.Cmp.{ranked}
 use Rattle.find.specs.First.{first, first_pair, Searched, SearchedPair}
 use Rattle.find.proofs.Firsts.{first_says, pair_is}
@@ -122,10 +122,6 @@ pair_found test n = sym (pair_is test n (λ _. n) _ (searched (filter_map (found
         level : (k i : ℕ) → k ≤ i → NoLater (k, j) (i, j)
         level k i m = grind arith
 
-    unpassed : (b : Bool) → (b ≡ true → ⊥) → b ≡ false
-    unpassed true h = absurd (h refl)
-    unpassed false h = refl
-
     sooner : (p : ℕ × ℕ) (i j : ℕ) → NoLater p (i, j) → i < p.0 → ⊥
     sooner p i j (inl h) l = omega arith
     sooner p i j (inr h) l = omega (arith, h.0)
@@ -137,8 +133,8 @@ pair_found test n = sym (pair_is test n (λ _. n) _ (searched (filter_map (found
     found : (p : ℕ × ℕ) → Passes p → ((i j : ℕ) → i < n → j < n → test i j ≡ true → NoLater p (i, j)) → SearchedPair test n (λ _. n) (Some p)
     found p h near = (
       h.0,
-      λ i j l k. unpassed (test i j) (λ t. sooner p i j (near i j (omega (arith, h.0)) k t) l),
-      (h.1, h.2, λ j l. unpassed (test p.0 j) (λ t. sooner_second p j (near p.0 j h.0 (omega (arith, h.1)) t) l)),
+      λ i j l k. false_from_ne_true (test i j) (λ t. sooner p i j (near i j (omega (arith, h.0)) k t) l),
+      (h.1, h.2, λ j l. false_from_ne_true (test p.0 j) (λ t. sooner_second p j (near p.0 j h.0 (omega (arith, h.1)) t) l)),
     )
 
     searched : (xs : List (ℕ × ℕ)) → filter_map (found_with test n) (range_with_len 0 n) ≡ xs → SearchedPair test n (λ _. n) (reduce earlier xs)

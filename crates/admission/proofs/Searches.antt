@@ -3,7 +3,7 @@ use Rattle.std.proofs.Common.{◌≡◌, ℕ, zero, suc, ◌+◌, ◌-◌, ◌<�
 use Rattle.std.specs.Bool.{then_some}
 use Rattle.std.specs.Option.{option_or, option_map, SomeIff}
 use Rattle.std.specs.List.{range_with_len, find, fold, reduce, filter_map, cons_option}
-use Rattle.std.proofs.lemmas.Bool.{cases_lt, ltb-false, le-ltb, and_from, or_left, or_right}
+use Rattle.std.proofs.lemmas.Bool.{cases_lt, ltb-false, le-ltb, and_from, or_left, or_right, or_from, and_left, and_right}
 use Rattle.std.proofs.lemmas.List.Folds.{find-append}
 use Rattle.find.specs.First.{first, Searched}
 use Rattle.find.proofs.Firsts.{first_says, first_is}
@@ -47,22 +47,19 @@ reduce_min None xs = refl
 reduce_min (Some x) [] = refl
 reduce_min (Some x) (y ∷ ys) = ap Some (fold_min x y ys)
 
-neither : (a b : Bool) → a ≡ false → b ≡ false → (a || b) ≡ false
-neither a b p q = cc
-
 -- the first that passes one of two tests
 first_either : (p q : ℕ → Bool) (n : ℕ) → first (λ i. p i || q i) n ≡ lower_of (first p n) (first q n)
 first_either p q n = first_is (λ i. p i || q i) n (lower_of (first p n) (first q n)) (both (first p n) (first q n) (first_says p n) (first_says q n))
   where
     both : (a b : Option ℕ) → Searched p n a → Searched q n b → Searched (λ i. p i || q i) n (lower_of a b)
-    both None None s t = λ j l. neither (p j) (q j) (s j l) (t j l)
-    both None (Some j) s t = (t.0, or_right (p j) (q j) t.1, λ i l. neither (p i) (q i) (s i (omega (arith, t.0))) (t.2 i l))
-    both (Some i) None s t = (s.0, or_left (p i) (q i) s.1, λ j l. neither (p j) (q j) (s.2 j l) (t j (omega (arith, s.0))))
+    both None None s t = λ j l. or_from (p j) (q j) (s j l) (t j l)
+    both None (Some j) s t = (t.0, or_right (p j) (q j) t.1, λ i l. or_from (p i) (q i) (s i (omega (arith, t.0))) (t.2 i l))
+    both (Some i) None s t = (s.0, or_left (p i) (q i) s.1, λ j l. or_from (p j) (q j) (s.2 j l) (t j (omega (arith, s.0))))
     both (Some i) (Some j) s t = elim (cases_lt j i) [
       | inl l ↦ (let e : j ≡ min i j = omega arith in
-          subst (λ k. Searched (λ i. p i || q i) n (Some k)) e (t.0, or_right (p j) (q j) t.1, λ k m. neither (p k) (q k) (s.2 k (omega arith)) (t.2 k m)))
+          subst (λ k. Searched (λ i. p i || q i) n (Some k)) e (t.0, or_right (p j) (q j) t.1, λ k m. or_from (p k) (q k) (s.2 k (omega arith)) (t.2 k m)))
       | inr l ↦ (let e : i ≡ min i j = omega arith in
-          subst (λ k. Searched (λ i. p i || q i) n (Some k)) e (s.0, or_left (p i) (q i) s.1, λ k m. neither (p k) (q k) (s.2 k m) (t.2 k (omega arith))))
+          subst (λ k. Searched (λ i. p i || q i) n (Some k)) e (s.0, or_left (p i) (q i) s.1, λ k m. or_from (p k) (q k) (s.2 k m) (t.2 k (omega arith))))
     ]
 
 -- the lowest task that uses the rank of some class
@@ -84,22 +81,18 @@ pub first_below : (p : ℕ → Bool) (n t : ℕ) (o r : Option ℕ) → o ≡ fi
     → r ≡ first (λ i. nat_lt i t && p i) n
 first_below p n t o r e h = sym (first_is (λ i. nat_lt i t && p i) n r (below o (subst (Searched p n) (sym e) (first_says p n)) h))
   where
-    fails : (a b : Bool) → b ≡ false → (a && b) ≡ false
-    fails true b q = q
-    fails false b q = refl
-
     below : (o : Option ℕ) → Searched p n o → MatchOption o (r ≡ None) (λ x. r ≡ then_some (nat_lt x t) x) → Searched (λ i. nat_lt i t && p i) n r
-    below None s h = subst (Searched (λ i. nat_lt i t && p i) n) (sym h) (λ j l. fails (nat_lt j t) (p j) (s j l))
+    below None s h = subst (Searched (λ i. nat_lt i t && p i) n) (sym h) (λ j l. and_right (nat_lt j t) (p j) (s j l))
     below (Some x) s h = subst (Searched (λ i. nat_lt i t && p i) n) (sym h) (at_test (nat_lt x t) refl)
       where
         unpassed : (j : ℕ) → t ≤ x → j < n → (nat_lt j t && p j) ≡ false
         unpassed j k m = elim (cases_lt j t) [
-          | inl l ↦ fails (nat_lt j t) (p j) (s.2 j (omega arith))
-          | inr l ↦ ap (λ b. b && p j) (le-ltb j t l)
+          | inl l ↦ and_right (nat_lt j t) (p j) (s.2 j (omega arith))
+          | inr l ↦ and_left (nat_lt j t) (p j) (le-ltb j t l)
         ]
 
         at_test : (b : Bool) → nat_lt x t ≡ b → Searched (λ i. nat_lt i t && p i) n (then_some b x)
-        at_test true q = (s.0, and_from (nat_lt x t) (p x) q s.1, λ j l. fails (nat_lt j t) (p j) (s.2 j l))
+        at_test true q = (s.0, and_from (nat_lt x t) (p x) q s.1, λ j l. and_right (nat_lt j t) (p j) (s.2 j l))
         at_test false q = λ j l. unpassed j (ltb-false x t q) l
 
 -- the task that a mark names

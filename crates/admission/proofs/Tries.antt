@@ -15,6 +15,7 @@ use Rattle.denial.specs.Numbers.{denied}
 use Rattle.denial.specs.Checks.{unless}
 use Rattle.std.proofs.lemmas.Bool.{cases_lt}
 use Rattle.std.proofs.lemmas.Iterator.Adapters.{option_map_id}
+use Rattle.bounds.proofs.Checked.{clear}
 use Rattle.find.specs.First.{first, first_pair}
 use Rattle.group.specs.Task.{Task, at}
 use Rattle.admission.specs.Start.{lacking, unbounded_fault}
@@ -60,10 +61,6 @@ a_fault fault (suc n) i d l e h = elim (cases_lt i n) [
       ap (λ o. option_or o (fault n)) (no_fault fault n (λ k j. h k (omega arith))) ∙ ap fault (sym q) ∙ e)
 ]
 
-passed : (o : Option Denial) (v : Result (Unit {0}) Denial) → v ≡ unless o tt → v ≡ Ok tt → o ≡ None
-passed None v e q = refl
-passed (Some d) v e q = absurd (let z : ◌≡◌ {A = Result (Unit {0}) Denial} (Err d) (Ok tt) = sym e ∙ q in cc)
-
 failed : (o : Option Denial) (v : Result (Unit {0}) Denial) (d : Denial) → v ≡ unless o tt → v ≡ Err d → o ≡ Some d
 failed None v d e q = absurd (let z : ◌≡◌ {A = Result (Unit {0}) Denial} (Ok tt) (Err d) = sym e ∙ q in cc)
 failed (Some x) v d e q = let z : ◌≡◌ {A = Result (Unit {0}) Denial} (Err x) (Err d) = sym e ∙ q in cc
@@ -94,7 +91,7 @@ tried {F} {E} {g} {f} branches resumes s r (p, from, run) n e fault calls goes s
     there k l = let z : 0 + k ≡ k = omega arith in sym (option_map_id (p.at k)) ∙ counts.3 k l ∙ ap Some z
 
     clean : (k : ℕ) → CallBranches p g f branches (Continue tt) k → fault k ≡ None
-    clean k h = passed (fault k) h.0 (calls k h.0 f h.1).1 (goes h.0 h.2)
+    clean k h = clear (fault k) tt tt (sym (goes h.0 h.2) ∙ (calls k h.0 f h.1).1)
 
     Whole : Type 0
     Whole = branches r (Continue tt) × (CallKeepsClosure g f → AllItems p (CallBranches p g f branches (Continue tt)))

@@ -23,15 +23,15 @@ pub(crate) struct Marked<'g, 's, G: Group> {
 impl<'g, 's, G: Group> Marked<'g, 's, G> {
     // The lowest task that uses a rank.
     fn lowest_user(&self, rank: u8) -> Option<u16>
-        ensures { result ≡ first (λ i. uses (at (G.tasks self.now.group.now) i).classes rank) (length (G.tasks self.now.group.now)) }
+        ensures { let ts = G.tasks self.now.group.now in result ≡ first (λ i. uses (at ts i).classes rank) (length ts) }
     {
         u16::from(self.marks[usize::from(rank)]).checked_sub(1)
     }
 
     // The first pair of tasks that share a rank, this one the second.
     fn shared_with(&self, task: u16) -> Option<(u16, u16)>
-        ensures { result ≡ option_map (λ i. (i, task))
-            (first (λ i. sharing (G.tasks self.now.group.now) i task) (length (G.tasks self.now.group.now))) }
+        ensures { let ts = G.tasks self.now.group.now in
+            result ≡ option_map (λ i. (i, task)) (first (λ i. sharing ts i task) (length ts)) }
     {
         (1..=self.group.class_count(task))
             .map(|class| self.group.terms(task, class))
@@ -43,8 +43,7 @@ impl<'g, 's, G: Group> Marked<'g, 's, G> {
 
     // The first two tasks that share a rank: the lowest first, then the lowest second.
     fn shared_pair(&self) -> Option<(u16, u16)>
-        ensures { result ≡ first_pair (sharing (G.tasks self.now.group.now)) (length (G.tasks self.now.group.now))
-            (λ _. length (G.tasks self.now.group.now)) }
+        ensures { let ts = G.tasks self.now.group.now in result ≡ first_pair (sharing ts) (length ts) (λ _. length ts) }
     {
         (0..self.group.count())
             .filter_map(|task| self.shared_with(task))
@@ -72,8 +71,8 @@ impl<'g, 's, G: Group> Marked<'g, 's, G> {
 
     // The lowest class of a task that must have a bound and has none.
     fn lowest_lacking(&self, task: u16) -> Option<u8>
-        ensures { result ≡ option_map suc (first (λ j. lacking (G.tasks self.now.group.now) task (suc j))
-            (length (at (G.tasks self.now.group.now) task).classes)) }
+        ensures { let ts = G.tasks self.now.group.now in
+            result ≡ option_map suc (first (λ j. lacking ts task (suc j)) (length (at ts task).classes)) }
     {
         (1..=self.group.class_count(task)).find(|class| self.lacks_bound(task, *class))
     }

@@ -14,7 +14,7 @@ fn first_mark(old: u8, mark: u8) -> u8
     if old == 0 { mark } else { old }
 }
 
-// Marks the ranks that a task uses and that have no mark yet.
+// Marks the ranks that a task uses and that have no mark yet. A `for`, as below, since it writes: `for_each` is no plainer.
 fn mark_task<G: Group>(group: &G, task: u16, scratch: &mut [u8])
     requires few { length (G.tasks group.now) ≤ 64 }
     requires room { 256 ≤ length scratch.old }
@@ -22,6 +22,7 @@ fn mark_task<G: Group>(group: &G, task: u16, scratch: &mut [u8])
 {
     for class in 1..=group.class_count(task) {
         let rank = usize::from(group.terms(task, class).rank);
+        // A task number is below 64 here, so it fits a byte.
         scratch[rank] = first_mark(scratch[rank], task as u8 + 1);
     }
 }
