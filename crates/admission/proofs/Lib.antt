@@ -1,5 +1,5 @@
-pub mod Marks
-pub mod Sharers
+pub mod Marking
+pub mod Searches
+pub mod Tries
 pub mod Pairs
-pub mod Lacking
 pub mod Verdict

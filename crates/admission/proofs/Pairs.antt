@@ -1,103 +1,149 @@
--- The first pair of tasks that share a rank, task by task.
-use Rattle.std.proofs.Common.{◌≡◌, ℕ, ◌+◌, ◌<◌, ◌≤◌, Bool, true, false, cond, ◌&&◌, ltb, ◌⊎◌, List, Some, None, Option, sym, refl, ap, ◌∙◌, inl, inr, arith, MatchOption}
-use Rattle.std.proofs.lemmas.Bool.{both_ways, ltb-true, ltb-false, and_parts}
-use Rattle.find.specs.First.{first_pair, SearchedPair}
-use Rattle.find.proofs.Firsts.{pair_is}
-use Rattle.group.specs.Task.{Task}
-use Rattle.admission.specs.Start.{sharing}
-use Rattle.admission.specs.Ranks.{LowestSharer, better}
+-- The first pair that passes a test, as the least of a list of pairs.
+use Rattle.std.proofs.Common.{◌≡◌, ℕ, zero, suc, ◌+◌, ◌<◌, ◌≤◌, Bool, true, false, ◌⊎◌, List, [], ◌∷◌, Some, None, Option, IfSome, sym, refl, subst, inl, inr, arith}
+use Rattle.std.specs.Option.{option_map}
+use Rattle.std.specs.declared.cmp.Ordering.{Ordering}
+use Rattle.std.specs.declared.cmp.Ordering.TheVariants.{Less, Equal, Greater}
+use Rattle.std.specs.Ordering.{nat_cmp, ordering_then, min_by_ordering, MatchOrdering}
+use Rattle.std.specs.List.{range_with_len, fold, reduce, filter_map, cons_option, AllByRecursion}
+use Rattle.std.proofs.lemmas.Bool.{both_ways, cases_lt, false_from_ne_true}
+use Rattle.std.proofs.lemmas.Cmp.{ranked}
+use Rattle.find.specs.First.{first, first_pair, Searched, SearchedPair}
+use Rattle.find.proofs.Firsts.{first_says, pair_is}
 
--- a pair comes no later than i and j
-abbrev pub NoLater : ℕ × ℕ → (i j : ℕ) → Type 0
-NoLater p i j = (p.0 < i) ⊎ ((p.0 ≡ i) × (p.1 ≤ j))
+-- a pair comes no later than another
+abbrev pub NoLater : ℕ × ℕ → ℕ × ℕ → Type 0
+NoLater p q = (p.0 < q.0) ⊎ ((p.0 ≡ q.0) × (p.1 ≤ q.1))
 
--- of the pairs whose second task is below t the first one that passes
-abbrev pub LeastPair : (ℕ → ℕ → Bool) → ℕ → Option (ℕ × ℕ) → Type 0
-LeastPair test t o =
-    MatchOption o ((i j : ℕ) → j < t → test i j ≡ false) (λ p. (p.1 < t) × (test p.0 p.1 ≡ true) × ((i j : ℕ) → j < t → test i j ≡ true → NoLater p i j))
+-- the earlier of two, as `min` takes it
+abbrev pub earlier : ℕ × ℕ → ℕ × ℕ → ℕ × ℕ
+earlier p q = min_by_ordering (ordering_then (nat_cmp p.0 q.0) (nat_cmp p.1 q.1)) p q
 
-last_or_below : (j t : ℕ) → j < t + 1 → (j ≡ t) ⊎ (j < t)
-last_or_below j t h = grind arith
+no_later_on : (p q r : ℕ × ℕ) → NoLater p q → NoLater q r → NoLater p r
+no_later_on p q r a b = grind arith
 
-pub least_none : (test : ℕ → ℕ → Bool) → LeastPair test 0 None
-least_none test = λ i j h. absurd (omega arith)
-
-unmoved : (b : Bool) → (b ≡ true → ⊥) → b ≡ false
-unmoved true h = absurd (h refl)
-unmoved false h = refl
-
--- one task more
-pub least_more : (ts : List Task) (t low : ℕ) (o : Option (ℕ × ℕ)) → LowestSharer ts t low → LeastPair (sharing ts) t o → LeastPair (sharing ts) (t + 1) (better o low t)
-least_more ts t low None s h = at_test (ltb low t) refl
+earlier_is : (p q : ℕ × ℕ) → ((earlier p q ≡ p) × NoLater p q) ⊎ ((earlier p q ≡ q) × NoLater q p)
+earlier_is p q = told (nat_cmp p.0 q.0) (ranked p.0 q.0 _ refl) (nat_cmp p.1 q.1) (ranked p.1 q.1 _ refl)
   where
-    at_test : (b : Bool) → ltb low t ≡ b → LeastPair (sharing ts) (t + 1) (cond b (Some (low, t)) None)
-    at_test false e = λ i j l. elim (last_or_below j t l) [
-      | inl q ↦ unmoved (sharing ts i j) (λ u. (let r = s.lowest i (ap (sharing ts i) (sym q) ∙ u) in
-          let p = and_parts (ltb i j) _ u in omega (arith, ltb-true i j p.0, ltb-false low t e)))
-      | inr q ↦ h i j q
+    told : (a : Ordering) → MatchOrdering a (p.0 < q.0) (p.0 ≡ q.0) (q.0 < p.0) → (b : Ordering) → MatchOrdering b (p.1 < q.1) (p.1 ≡ q.1) (q.1 < p.1)
+        → ((min_by_ordering (ordering_then a b) p q ≡ p) × NoLater p q) ⊎ ((min_by_ordering (ordering_then a b) p q ≡ q) × NoLater q p)
+    told Less h b k = inl (refl, inl h)
+    told Greater h b k = inr (refl, inl h)
+    told Equal h Less k = inl (refl, inr (h, omega arith))
+    told Equal h Equal k = inl (refl, inr (h, omega arith))
+    told Equal h Greater k = inr (refl, inr (sym h, omega arith))
+
+-- what holds of each pair holds of the least
+fold_keeps : (P : ℕ × ℕ → Type 0) (m : ℕ × ℕ) (xs : List (ℕ × ℕ)) → P m → AllByRecursion P xs → P (fold earlier m xs)
+fold_keeps P m [] h k = h
+fold_keeps P m (x ∷ xs) h k = elim (earlier_is m x) [
+  | inl e ↦ fold_keeps P (earlier m x) xs (subst P (sym e.0) h) k.1
+  | inr e ↦ fold_keeps P (earlier m x) xs (subst P (sym e.0) k.0) k.1
+]
+
+-- and it comes no later than any
+fold_least : (m : ℕ × ℕ) (xs : List (ℕ × ℕ)) → AllByRecursion (NoLater (fold earlier m xs)) (m ∷ xs)
+fold_least m [] = (inr (refl, omega arith), tt)
+fold_least m (x ∷ xs) = elim (earlier_is m x) [
+  | inl e ↦ (let least = fold_least (earlier m x) xs in
+      let first = subst (NoLater (fold earlier (earlier m x) xs)) e.0 least.0 in
+      (first, (no_later_on (fold earlier (earlier m x) xs) m x first e.1, least.1)))
+  | inr e ↦ (let least = fold_least (earlier m x) xs in
+      let second = subst (NoLater (fold earlier (earlier m x) xs)) e.0 least.0 in
+      (no_later_on (fold earlier (earlier m x) xs) x m second e.1, (second, least.1)))
+]
+
+-- a fact of what each number gives is one of all that is given
+all_given : (P : ℕ × ℕ → Type 0) (h : ℕ → Option (ℕ × ℕ)) (a n : ℕ) → ((j : ℕ) → a ≤ j → j < a + n → IfSome (h j) P)
+    → AllByRecursion P (filter_map h (range_with_len a n))
+all_given P h a zero f = tt
+all_given P h a (suc n) f = joined (h a) (f a (omega arith) (omega arith)) (all_given P h (a + 1) n (λ j l k. f j (omega arith) (omega arith)))
+  where
+    joined : (o : Option (ℕ × ℕ)) → IfSome o P → AllByRecursion P (filter_map h (range_with_len (a + 1) n))
+        → AllByRecursion P (cons_option o (filter_map h (range_with_len (a + 1) n)))
+    joined None p k = k
+    joined (Some x) p k = (p, k)
+
+each_given : (P : ℕ × ℕ → Type 0) (h : ℕ → Option (ℕ × ℕ)) (a n : ℕ) → AllByRecursion P (filter_map h (range_with_len a n))
+    → (j : ℕ) → a ≤ j → j < a + n → IfSome (h j) P
+each_given P h a zero f j l k = absurd (omega arith)
+each_given P h a (suc n) f j l k = elim (cases_lt a j) [
+  | inl m ↦ each_given P h (a + 1) n (parts (h a) f).1 j (omega arith) (omega arith)
+  | inr m ↦ (let e : a ≡ j = omega arith in subst (λ i. IfSome (h i) P) e (parts (h a) f).0)
+]
+  where
+    parts : (o : Option (ℕ × ℕ)) → AllByRecursion P (cons_option o (filter_map h (range_with_len (a + 1) n)))
+        → IfSome o P × AllByRecursion P (filter_map h (range_with_len (a + 1) n))
+    parts None k = (tt, k)
+    parts (Some x) k = k
+
+none_given : (h : ℕ → Option (ℕ × ℕ)) (a n : ℕ) → filter_map h (range_with_len a n) ≡ [] → (j : ℕ) → a ≤ j → j < a + n → h j ≡ None
+none_given h a zero e j l k = absurd (omega arith)
+none_given h a (suc n) e j l k = elim (cases_lt a j) [
+  | inl m ↦ none_given h (a + 1) n (parts (h a) e).1 j (omega arith) (omega arith)
+  | inr m ↦ (let i : a ≡ j = omega arith in subst (λ i. h i ≡ None) i (parts (h a) e).0)
+]
+  where
+    parts : (o : Option (ℕ × ℕ)) → cons_option o (filter_map h (range_with_len (a + 1) n)) ≡ []
+        → (o ≡ None) × (filter_map h (range_with_len (a + 1) n) ≡ [])
+    parts None k = (refl, k)
+    parts (Some x) k = absurd cc
+
+-- a pair of what was found and j
+abbrev pub with : ℕ → Option ℕ → Option (ℕ × ℕ)
+with j o = option_map (λ i. let p : ℕ × ℕ = (i, j) in p) o
+
+-- for each number the first that passes with it
+abbrev pub found_with : (ℕ → ℕ → Bool) → ℕ → ℕ → Option (ℕ × ℕ)
+found_with test n j = with j (first (λ i. test i j) n)
+
+-- the least of these pairs is the first pair that passes
+pub pair_found : (test : ℕ → ℕ → Bool) (n : ℕ) → reduce earlier (filter_map (found_with test n) (range_with_len 0 n)) ≡ first_pair test n (λ _. n)
+pair_found test n = sym (pair_is test n (λ _. n) _ (searched (filter_map (found_with test n) (range_with_len 0 n)) refl))
+  where
+    missing : (o : Option ℕ) (j : ℕ) → Searched (λ i. test i j) n o → with j o ≡ None → (i : ℕ) → i < n → test i j ≡ false
+    missing None j s e = s
+    missing (Some i) j s e = absurd cc
+
+    Passes : ℕ × ℕ → Type 0
+    Passes p = (p.0 < n) × (p.1 < n) × (test p.0 p.1 ≡ true)
+
+    passes : (o : Option ℕ) (j : ℕ) → j < n → Searched (λ i. test i j) n o → IfSome (with j o) Passes
+    passes None j l s = tt
+    passes (Some i) j l s = (s.0, l, s.1)
+
+    later : (p : ℕ × ℕ) (o : Option ℕ) (j : ℕ) → Searched (λ i. test i j) n o → IfSome (with j o) (NoLater p)
+        → (i : ℕ) → i < n → test i j ≡ true → NoLater p (i, j)
+    later p None j s h i l t = absurd (both_ways (test i j) (s i l) t)
+    later p (Some k) j s h i l t = elim (cases_lt i k) [
+      | inl m ↦ absurd (both_ways (test i j) (s.2 i m) t)
+      | inr m ↦ no_later_on p (k, j) (i, j) h (level k i m)
     ]
-    at_test true e = (omega arith, s.shares (ltb-true low t e), later)
       where
-        later : (i j : ℕ) → j < t + 1 → sharing ts i j ≡ true → NoLater (low, t) i j
-        later i j l u = elim (last_or_below j t l) [
-          | inl q ↦ (let r = s.lowest i (ap (sharing ts i) (sym q) ∙ u) in order low i t j r q)
-          | inr q ↦ absurd (both_ways (sharing ts i j) (h i j q) u)
-        ]
-          where
-            order : (a i t j : ℕ) → a ≤ i → j ≡ t → NoLater (a, t) i j
-            order a i t j r q = grind arith
-least_more ts t low (Some p) s h = at_test (ltb low t && ltb low p.0) refl
-  where
-    low_at : (i j : ℕ) → j ≡ t → sharing ts i j ≡ true → low ≤ i
-    low_at i j q u = s.lowest i (ap (sharing ts i) (sym q) ∙ u)
+        level : (k i : ℕ) → k ≤ i → NoLater (k, j) (i, j)
+        level k i m = grind arith
 
-    at_test : (b : Bool) → (ltb low t && ltb low p.0) ≡ b → LeastPair (sharing ts) (t + 1) (cond b (Some (low, t)) (Some p))
-    at_test true e = (omega arith, s.shares (ltb-true low t parts.0), later)
-      where
-        parts : (ltb low t ≡ true) × (ltb low p.0 ≡ true)
-        parts = and_parts (ltb low t) (ltb low p.0) e
+    sooner : (p : ℕ × ℕ) (i j : ℕ) → NoLater p (i, j) → i < p.0 → ⊥
+    sooner p i j (inl h) l = omega arith
+    sooner p i j (inr h) l = omega (arith, h.0)
 
-        here : (a i t j : ℕ) → a ≤ i → j ≡ t → NoLater (a, t) i j
-        here a i t j r q = grind arith
+    sooner_second : (p : ℕ × ℕ) (j : ℕ) → NoLater p (p.0, j) → j < p.1 → ⊥
+    sooner_second p j (inl h) l = omega arith
+    sooner_second p j (inr h) l = omega (arith, h.1)
 
-        before : (a b i j : ℕ) → low < a → NoLater (a, b) i j → NoLater (low, t) i j
-        before a b i j l n = grind arith
+    found : (p : ℕ × ℕ) → Passes p → ((i j : ℕ) → i < n → j < n → test i j ≡ true → NoLater p (i, j)) → SearchedPair test n (λ _. n) (Some p)
+    found p h near = (
+      h.0,
+      λ i j l k. false_from_ne_true (test i j) (λ t. sooner p i j (near i j (omega (arith, h.0)) k t) l),
+      (h.1, h.2, λ j l. false_from_ne_true (test p.0 j) (λ t. sooner_second p j (near p.0 j h.0 (omega (arith, h.1)) t) l)),
+    )
 
-        later : (i j : ℕ) → j < t + 1 → sharing ts i j ≡ true → NoLater (low, t) i j
-        later i j l u = elim (last_or_below j t l) [
-          | inl q ↦ here low i t j (low_at i j q u) q
-          | inr q ↦ before p.0 p.1 i j (ltb-true low p.0 parts.1) (h.2 i j q u)
-        ]
-    at_test false e = (omega (arith, h.0), h.1, later)
-      where
-        kept : (a b i j : ℕ) → (ltb low t && ltb low a) ≡ false → low < t → low ≤ i → b < t → j ≡ t → NoLater (a, b) i j
-        kept a b i j e l m k q = grind arith
-
-        later : (i j : ℕ) → j < t + 1 → sharing ts i j ≡ true → NoLater p i j
-        later i j l u = elim (last_or_below j t l) [
-          | inl q ↦ (let r = low_at i j q u in
-              let w = ltb-true i j (and_parts (ltb i j) _ u).0 in
-              kept p.0 p.1 i j e (omega arith) r h.0 q)
-          | inr q ↦ h.2 i j q u
-        ]
-
--- all tasks
-pub least_all : (ts : List Task) (n : ℕ) (o : Option (ℕ × ℕ)) → LeastPair (sharing ts) n o → o ≡ first_pair (sharing ts) n (λ _. n)
-least_all ts n o h = sym (pair_is (sharing ts) n (λ _. n) o (searched o h))
-  where
-    searched : (o : Option (ℕ × ℕ)) → LeastPair (sharing ts) n o → SearchedPair (sharing ts) n (λ _. n) o
-    searched None h = λ i j l k. h i j k
-    searched (Some p) h =
-        let w = ltb-true p.0 p.1 (and_parts (ltb p.0 p.1) _ h.1).0 in (
-          omega (arith, h.0),
-          λ i j l k. unmoved (sharing ts i j) (λ u. lower i j l (h.2 i j k u)),
-          (h.0, h.1, λ j l. unmoved (sharing ts p.0 j) (λ u. second j l (h.2 p.0 j (omega (arith, h.0)) u))),
-        )
-      where
-        lower : (i j : ℕ) → i < p.0 → NoLater p i j → ⊥
-        lower i j l (inl q) = omega arith
-        lower i j l (inr q) = omega (arith, q.0)
-
-        second : (j : ℕ) → j < p.1 → NoLater p p.0 j → ⊥
-        second j l (inl q) = omega arith
-        second j l (inr q) = omega (arith, q.1)
+    searched : (xs : List (ℕ × ℕ)) → filter_map (found_with test n) (range_with_len 0 n) ≡ xs → SearchedPair test n (λ _. n) (reduce earlier xs)
+    searched [] e = λ i j l k.
+        missing (first (λ i. test i j) n) j (first_says (λ i. test i j) n) (none_given (found_with test n) 0 n e j (omega arith) (omega arith)) i l
+    searched (m ∷ xs) e =
+        let all = subst (AllByRecursion Passes) e
+        (all_given Passes (found_with test n) 0 n (λ j a b. passes (first (λ i. test i j) n) j (omega arith) (first_says (λ i. test i j) n))) in
+        let holds : Passes (fold earlier m xs) = fold_keeps Passes m xs all.0 all.1 in
+        let least = subst (AllByRecursion (NoLater (fold earlier m xs))) (sym e) (fold_least m xs) in
+        found (fold earlier m xs) holds (λ i j l k t. later (fold earlier m xs) (first (λ i. test i j) n) j (first_says (λ i. test i j) n)
+        (each_given (NoLater (fold earlier m xs)) (found_with test n) 0 n least j (omega arith) (omega arith)) i l t)

@@ -1,7 +1,7 @@
 -- What the answer of a start means.
 use Rattle.std.proofs.Common.{◌≡◌, ℕ, zero, suc, ◌<◌, ◌≤◌, Bool, true, false, not, ◌||◌, eqb, ltb, ◌⊎◌, List, [], ◌∷◌, length, get_or, is_some, Some, None, Ok, Err, Option, Result, sym, refl, ap, ◌∙◌, inl, inr, arith}
 use Rattle.std.specs.Option.{option_or, option_map}
-use Rattle.std.proofs.lemmas.Bool.{cases_order, both_ways, eqb-true, eq-eqb, ltb-true, ltb-false, lt-ltb, le-ltb, and_parts, and_from, or_cases, or_left, or_right, not-true, not_from_false}
+use Rattle.std.proofs.lemmas.Bool.{cases_order, both_ways, eqb-true, eq-eqb, ltb-true, ltb-false, lt-ltb, le-ltb, and_parts, and_from, or_cases, or_left, or_right, not-true, not_from_false, false_from_ne_true}
 use Rattle.denial.specs.declared.Denial.{Denial}
 use Rattle.denial.specs.declared.Rule.TheVariants.{Started, Scratch, TaskCount, SharedRank, Unbounded}
 use Rattle.denial.specs.Numbers.{denied, number_of}
@@ -160,16 +160,12 @@ module _ (ts : List Task) where
       ap (λ x. option_or x (unbounded_fault ts)) (ap (option_map (λ p. denied SharedRank p.0 p.1)) (pair_is (sharing ts) (length ts) (λ _. length ts) None no_shared))
       ∙ ap (option_map (λ p. denied Unbounded p.0 (suc p.1))) (pair_is (λ k j. lacking ts k (suc j)) (length ts) (λ k. length (at ts k).classes) None no_lack)
     where
-      not_so : (b : Bool) → (b ≡ true → ⊥) → b ≡ false
-      not_so true h = absurd (h refl)
-      not_so false h = refl
-
       no_shared : NoPair (sharing ts) (length ts) (λ _. length ts)
-      no_shared i j l k = not_so (sharing ts i j) (λ u. s.apart i j (sharing_shares ts i j k u))
+      no_shared i j l k = false_from_ne_true (sharing ts i j) (λ u. s.apart i j (sharing_shares ts i j k u))
 
       no_lack : NoPair (λ k j. lacking ts k (suc j)) (length ts) (λ k. length (at ts k).classes)
       no_lack k j l h =
-          not_so (lacking ts k (suc j)) (λ u. (let c : Class (at ts k) (suc j) = (omega arith, omega arith) in
+          false_from_ne_true (lacking ts k (suc j)) (λ u. (let c : Class (at ts k) (suc j) = (omega arith, omega arith) in
           let w = lacking_lacks ts k (suc j) l c u in
           let b = s.strict k (suc j) l c w.strict in
           w.never b.0 (bound_least ts k (suc j) l c b.0 b.1).bounded))

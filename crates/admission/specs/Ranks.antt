@@ -1,8 +1,13 @@
--- The steps by which marks are written and read. Assumes nothing.
-use Rattle.std.specs.Prelude.{◌≡◌, ℕ, ◌<◌, ◌≤◌, Bool, true, cond, ◌&&◌, List, length, drop, Some, None, Option, ◌==◌, nat_lt, slice_index}
+-- The steps by which marks are written and read, and tasks judged. Assumes nothing.
+use Rattle.std.specs.Prelude.{◌≡◌, ℕ, suc, ◌<◌, ◌≤◌, Bool, cond, ◌&&◌, List, length, drop, Option, ◌==◌, slice_index}
+use Rattle.std.specs.Option.{option_map}
+use Rattle.denial.specs.declared.Denial.{Denial}
+use Rattle.denial.specs.declared.Rule.TheVariants.{Unbounded}
+use Rattle.denial.specs.Numbers.{denied}
+use Rattle.find.specs.First.{first}
 use Rattle.group.specs.declared.meaning.Terms.{Terms}
-use Rattle.group.specs.Task.{Task}
-use Rattle.admission.specs.Start.{uses, mark, sharing}
+use Rattle.group.specs.Task.{Task, at}
+use Rattle.admission.specs.Start.{uses, mark, lacking}
 
 -- a byte once a task with this mark has used its rank, or not: the first mark stays
 abbrev pub marked_byte : Bool → (mark old : ℕ) → ℕ
@@ -18,13 +23,7 @@ pub record HoldsMarks (ts : List Task) (scratch : List ℕ) : Type 0 where
   pub room : 256 ≤ length scratch
   pub bytes : (r : ℕ) → r < 256 → slice_index scratch r ≡ mark ts r
 
--- r is the lowest task that shares a rank with a task, or the task itself if no lower one does
-pub record LowestSharer (ts : List Task) (task r : ℕ) : Type 0 where
-  pub within : r ≤ task
-  pub lowest : (i : ℕ) → sharing ts i task ≡ true → r ≤ i
-  pub shares : r < task → sharing ts r task ≡ true
-
--- the pair to keep once the lowest sharer of a task is known: the one with the lower first task, and of two such the one found first
-abbrev pub better : Option (ℕ × ℕ) → (lowest task : ℕ) → Option (ℕ × ℕ)
-better None lowest task = cond (nat_lt lowest task) (Some (lowest, task)) None
-better (Some p) lowest task = cond (nat_lt lowest task && nat_lt lowest p.0) (Some (lowest, task)) (Some p)
+-- why a task cannot be started: its lowest class that must have a bound and has none
+abbrev pub classes_fault : List Task → ℕ → Option Denial
+classes_fault ts k =
+    option_map (λ j. denied Unbounded k (suc j)) (first (λ j. lacking ts k (suc j)) (length (at ts k).classes))

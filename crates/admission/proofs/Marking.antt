@@ -1,27 +1,20 @@
 -- The marks of ranks, class by class and task by task.
-use Rattle.std.proofs.Common.{◌≡◌, ℕ, suc, ◌+◌, ◌<◌, ◌≤◌, Bool, true, false, cond, ◌||◌, eqb, List, [], ◌∷◌, ◌++◌, length, get_or, take, drop, set, replicate, Some, None, Option, sym, refl, ap, ◌∙◌, inl, inr, add-one, arith}
+use Rattle.std.proofs.Common.{◌≡◌, ℕ, zero, suc, ◌+◌, ◌-◌, ◌<◌, ◌≤◌, Bool, true, false, cond, ◌||◌, eqb, List, [], ◌∷◌, ◌++◌, length, get_or, take, drop, set, replicate, Some, None, Option, sym, refl, ap, ◌∙◌, subst, inl, inr, add-one, arith}
 use Rattle.std.specs.Option.{option_or}
 use Rattle.std.proofs.lemmas.List.{take_more, get_or-set_same, get_or-set_other, drop-set-lt, take-append-drop, length-take-le, get_or-take, get_or-replicate, length-replicate, length-append, get_or_append_left}
 use Rattle.std.proofs.lemmas.List.FromFn.{fill_by_all, length-map-range_with_len, get_or-map-range_with_len}
 use Rattle.std.proofs.lemmas.Bool.{cases_eq, eq-eqb, ne_eqb}
+use Rattle.std.proofs.Math.Bool.{or-false, false-or, or_assoc}
 use Rattle.find.specs.First.{first}
 use Rattle.group.specs.declared.meaning.Terms.{Terms}
-use Rattle.group.specs.Task.{Task, at, no_terms}
+use Rattle.group.specs.Task.{Task, Class, at, terms_of, no_terms}
 use Rattle.admission.specs.Start.{uses, mark_of, mark, marks}
 use Rattle.admission.specs.Ranks.{marked_byte, MarkedBy, HoldsMarks}
 
 -- one class more is used
 pub uses_last : (cs : List Terms) (c : Terms) (r : ℕ) → uses (cs ++ (c ∷ [])) r ≡ (uses cs r || eqb c.rank r)
-uses_last [] c r = last (eqb c.rank r)
-  where
-    last : (b : Bool) → (b || false) ≡ (false || b)
-    last true = refl
-    last false = refl
-uses_last (d ∷ cs) c r = ap (λ b. eqb d.rank r || b) (uses_last cs c r) ∙ assoc (eqb d.rank r) (uses cs r) (eqb c.rank r)
-  where
-    assoc : (x y z : Bool) → (x || (y || z)) ≡ ((x || y) || z)
-    assoc true y z = refl
-    assoc false y z = refl
+uses_last [] c r = or-false (eqb c.rank r) ∙ sym (false-or (eqb c.rank r))
+uses_last (d ∷ cs) c r = ap (λ b. eqb d.rank r || b) (uses_last cs c r) ∙ sym (or_assoc (eqb d.rank r) (uses cs r) (eqb c.rank r))
 
 pub uses_more : (cs : List Terms) (i r : ℕ) → i < length cs → uses (take (i + 1) cs) r ≡ (uses (take i cs) r || eqb (get_or cs i no_terms).rank r)
 uses_more cs i r l = ap (λ x. uses x r) (take_more cs i no_terms l) ∙ uses_last (take i cs) (get_or cs i no_terms) r
@@ -61,6 +54,17 @@ marked_more cs i rank mark byte before now l e b room m v h = record {
         let u : uses (take (i + 1) cs) r ≡ (uses (take i cs) r || false) = uses_more cs i r l ∙ ap (λ x. uses (take i cs) r || x) t in
         get_or-set_other now rank r byte 0 q ∙ h.bytes r k ∙ sym (other_byte (uses (take i cs) r) mark (get_or before r 0))
         ∙ ap (λ x. marked_byte x mark (get_or before r 0)) (sym u)
+
+-- the same of a class by its number
+pub marked_class : (t : Task) (c rank mark byte : ℕ) (before now : List ℕ) → Class t c → rank ≡ (terms_of t c).rank → rank < 256
+    → 256 ≤ length now → 1 ≤ mark → byte ≡ marked_byte true mark (get_or now rank 0) → MarkedBy (take (c - 1) t.classes) mark before now
+    → MarkedBy (take c t.classes) mark before (set now rank byte)
+marked_class t zero rank mark byte before now k e b room m v h = absurd (omega (arith, k.0))
+marked_class t (suc i) rank mark byte before now k e b room m v h =
+    let p : suc i - 1 ≡ i = omega arith in
+    let q : i + 1 ≡ suc i = omega arith in
+    let more = marked_more t.classes i rank mark byte before now (omega (arith, k.1)) e b room m v (subst (λ n. MarkedBy (take n t.classes) mark before now) p h) in
+    subst (λ n. MarkedBy (take n t.classes) mark before (set now rank byte)) q more
 
 -- nothing is marked at first
 pub marked_none : (cs : List Terms) (mark : ℕ) (before : List ℕ) → MarkedBy (take 0 cs) mark before before

@@ -1,8 +1,8 @@
 use Rattle.std.proofs.Common.{◌≡◌, ◌≤◌, ◌++◌, length, drop, replicate, ap, ◌∙◌, arith}
 use Rattle.std.proofs.lemmas.List.{length-take-le, drop_at}
 use Rattle.admission.specs.Start.{marks}
-use Rattle.admission.proofs.Marks.{below_none, below_more, below_all}
-use Rattle.admission.proofs.ranks.mark_ranks.Goals as goal
+use Rattle.admission.proofs.Marking.{below_none, below_more, below_all}
+use Rattle.admission.proofs.marks.mark_ranks.Goals as goal
 
 pub loop-task-init : goal.loop-task-init
 loop-task-init g c =
