@@ -30,12 +30,13 @@ paired p = option_map (λ k. (p.0, k)) p.1
 abbrev pub least_pair : {K : Type 0} → (K → K → Ordering) → ℕ × K → ℕ × K → ℕ × K
 least_pair R p q = min_by_ordering (R p.1 q.1) p q
 
--- What `min_by_key` does with pairs, by a function that reads the key of each.
+-- its key is the lesser of the two
 key_of : {K : Type 0} (o : Ordering) (p q : ℕ × K) → min_by_ordering o p.1 q.1 ≡ (min_by_ordering o p q).1
 key_of Less p q = refl
 key_of Equal p q = refl
 key_of Greater p q = refl
 
+-- What `min_by_key` does with pairs, by a function that reads the key of each: from the first pair on it keeps the lesser one.
 module _ {K F : Type 0} (R : K → K → Ordering) (g : Mut F (Bor (ℕ × K) × Unit {0}) K) (f : F)
     (reads : (x : ℕ × K) (k : K) (q : F) → CalledAt g f x k q → (q ≡ f) × (k ≡ x.1)) where
   turns : (p : ℕ × K) (xs : List (ℕ × K)) (q : F × K) (y : ℕ × K) → FoldsTo {P = (F × K) × (ℕ × K)} (KeyTurn min_by_ordering min_by_ordering g R) ((f, p.1), p) xs (q, y)
@@ -49,7 +50,7 @@ module _ {K F : Type 0} (R : K → K → Ordering) (g : Mut F (Bor (ℕ × K) ×
       let s : ◌≡◌ {A = (F × K) × (ℕ × K)} j ((f, (least_pair R p x).1), least_pair R p x) = λ i. ((r.0 i, m i), n i) in
       (least_pair R p x, refl, turns (least_pair R p x) xs q y (rw (sym s) h))
 
-  -- (`before`: the clause `runs` of the call before, which says what its steps are)
+  -- `before`, the clause `runs` of the call before, shows the steps
   pub picks : {S : Type 0} {steps : S → Option (ℕ × K) → S → Type 0} {P : Run steps → Type 0} (s : S) (r : Option (ℕ × K)) → EachRunFrom steps s P → PicksMinByKey steps g R s f r
       → MatchOption r (Drains steps s []) (λ y. (x : ℕ × K) × (xs : List (ℕ × K)) × Drains steps s (x ∷ xs) × FoldsTo (λ b z c. c ≡ least_pair R b z) x xs y)
   picks s None before h = h

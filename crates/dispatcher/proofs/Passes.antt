@@ -1,13 +1,13 @@
 -- A tick, task by task: the seats, the positions and the list of records after one task more.
 use Rattle.std.proofs.Common.{◌≡◌, ℕ, ◌+◌, ◌-◌, ◌<◌, ◌≤◌, Bool, true, ◌⊎◌, List, [], ◌∷◌, ◌++◌, length, get_or, drop, set, Some, None, Option, sym, refl, ap, ◌∙◌, inl, inr, append_assoc, add-zero, arith}
-use Rattle.std.proofs.lemmas.List.{length-set, length-append, get_or-set_same, get_or-set_other, set-append_right, drop_more, append-nil}
+use Rattle.std.proofs.lemmas.List.{length-set, length-append, length-drop, get_or-set_same, get_or-set_other, set-append_right, drop_more, append-nil}
 use Rattle.group.specs.Task.{Task, at, place}
 use Rattle.dispatcher.specs.declared.end.End.{End}
 use Rattle.dispatcher.specs.declared.slot.Seat.{Seat}
 use Rattle.dispatcher.specs.Slots.{way_of, end_record}
 use Rattle.dispatcher.specs.State.{State, state_of, new_seat, is_running, pending_count, tick_seat, settled_place}
 use Rattle.dispatcher.specs.Records.{ends_at, ends_upto}
-use Rattle.dispatcher.specs.Passing.{listed, noted, Passed}
+use Rattle.dispatcher.specs.Passing.{listed, Passed}
 use Rattle.dispatcher.proofs.Released.{standing_is}
 use Rattle.dispatcher.proofs.Ends.{ends_few, ends_more, pending_grows}
 
@@ -67,6 +67,11 @@ module _ (ts : List Task) (clock : ℕ) (mark : Bool) (ran : Option ℕ) (n : �
           ∙ ap (λ x. settled_place (at ts n) (way_of (at ts n) clock (is_running ran n) mark x.slot) (place places₁ n)) (h.seat_left n (omega arith))
           ∙ ap (settled_place (at ts n) (way_of (at ts n) clock (is_running ran n) mark (get_or seats n new_seat).slot)) (h.left n (omega arith))
 
+-- a list of records once one, if there is one, was written at a place
+abbrev pub noted : {A : Type 0} → List A → (place : ℕ) → Option A → List A
+noted xs place None = xs
+noted xs place (Some x) = set xs place x
+
 -- one record more, if there is one
 pub noted_more : (front before now : List End) (count : ℕ) (o : Option End) → count ≡ length front → now ≡ front ++ drop count before
     → count + length (listed o) ≤ length before → noted now count o ≡ (front ++ listed o) ++ drop (count + length (listed o)) before
@@ -80,6 +85,13 @@ noted_more front before now count (Some x) c e r =
     ∙ ap (λ n. front ++ set (drop count before) n x) d
     ∙ ap (λ y. front ++ set y 0 x) (drop_more before count x l)
     ∙ sym (append_assoc front (x ∷ []) (drop (count + 1) before))
+
+-- the list stays as long as it was
+pub noted_long : (front before now : List End) (count : ℕ) → count ≡ length front → count ≤ length before → now ≡ front ++ drop count before → length now ≡ length before
+noted_long front before now count c l e =
+    let a = ap length e ∙ length-append front (drop count before) in
+    let d = length-drop count before in
+    omega arith
 
 -- the record of one task is that of the state when the tick began
 pub end_at : (ts ts₁ : List Task) (clock : ℕ) (places : List ℕ) (seats seats₁ : List Seat) (mark : Bool) (ran : Option ℕ) (n : ℕ) (l : List End) → length places ≡ length ts

@@ -7,7 +7,7 @@ use Rattle.group.specs.Task.{Task, at, place}
 use Rattle.dispatcher.specs.declared.slot.Seat.{Seat}
 use Rattle.dispatcher.specs.declared.slot.Slot.{Slot}
 use Rattle.dispatcher.specs.State.{state_of, standing, stands, seated, new_seat, slot_of, release_seat, resume_seat, release_one, resume_one, released, resumed}
-use Rattle.dispatcher.specs.Refusals.{unstarted_fault, no_task_fault, known_answer}
+use Rattle.dispatcher.specs.Refusals.{unstarted_fault, no_task_fault, known_answer, release_fault, resume_fault, kept_if}
 use Rattle.dispatcher.proofs.Seated.{seated_at, seated_set}
 use Rattle.bounds.proofs.Checked.{both_clear, when_clear}
 use Rattle.dispatcher.proofs.Faults.{seats_enough}
@@ -29,30 +29,41 @@ module _ (ts : List Task) (clock : ℕ) (started : Bool) (places : List ℕ) (se
       ap Ok (e ∙ ap (λ x. x.seat) (sym (standing_is k (number_known k n))))
       ∙ ap (λ f. unless f (standing s k).seat) (sym (ap (λ f. option_or f (no_task_fault (length ts) k)) u ∙ n))
 
-  -- what is left once a task's seat is set
-  set_left : (k : ℕ) (seat : Seat) → k < length ts → k < length seats
-      → state_of clock started places (set seats k seat) ≡ record { clock = clock; started = started; standings = set (seated places seats) k (stands (place places k) seat) }
-  set_left k seat l m = ap (λ x. record { clock = clock; started = started; standings = x }) (seated_set places seats k seat (omega arith) m)
-
-  -- by a release, and by a resume
-  pub release_left : (k : ℕ) → k < length ts → k < length seats
-      → state_of clock started places (set seats k (release_seat ((at ts k).class_at (place places k)) clock (get_or seats k new_seat))) ≡ released ts k (state_of clock started places seats)
-  release_left k l m =
-      set_left k (release_seat ((at ts k).class_at (place places k)) clock (get_or seats k new_seat)) l m
-      ∙ ap (λ x. record { clock = clock; started = started; standings = set (seated places seats) k (release_one (at ts k) clock x) }) (sym (standing_is k l))
-
-  pub resume_left : (k : ℕ) → k < length ts → k < length seats
-      → state_of clock started places (set seats k (resume_seat (get_or seats k new_seat))) ≡ resumed k (state_of clock started places seats)
-  resume_left k l m =
-      set_left k (resume_seat (get_or seats k new_seat)) l m
-      ∙ ap (λ x. record { clock = clock; started = started; standings = set (seated places seats) k (resume_one x) }) (sym (standing_is k l))
-
   -- a call for a task that is not refused: what the first two checks said, whatever the third is
-  pub task_known : (k : ℕ) (third : Option Denial) → option_or (unstarted_fault started (length ts)) (option_or (no_task_fault (length ts) k) third) ≡ None
+  task_known : (k : ℕ) (third : Option Denial) → option_or (unstarted_fault started (length ts)) (option_or (no_task_fault (length ts) k) third) ≡ None
       → (k < length ts) × (length ts ≤ 64)
   task_known k third e =
       let a = both_clear (unstarted_fault started (length ts)) _ e in
       (number_known k (both_clear (no_task_fault (length ts) k) _ a.1).0, seats_enough started (length ts) (when_clear _ _ a.0))
+
+  -- what it leaves: the task's seat is set
+  seat_left : (k : ℕ) (third : Option Denial) (seat : Seat) → length seats ≡ 64
+      → option_or (unstarted_fault started (length ts)) (option_or (no_task_fault (length ts) k) third) ≡ None
+      → state_of clock started places (set seats k seat) ≡ record { clock = clock; started = started; standings = set (seated places seats) k (stands (place places k) seat) }
+  seat_left k third seat sized e =
+      let h = task_known k third e in
+      ap (λ x. record { clock = clock; started = started; standings = x }) (seated_set places seats k seat (omega (arith, h.0)) (omega (arith, h.0, h.1, sized)))
+
+  -- by a release, and by a resume
+  pub release_left : (k : ℕ) (seats' : List Seat) → length seats ≡ 64 → release_fault ts (state_of clock started places seats) k ≡ None
+      → seats' ≡ set seats k (release_seat ((at ts k).class_at (place places k)) clock (get_or seats k new_seat))
+      → state_of clock started places seats'
+      ≡ kept_if (release_fault ts (state_of clock started places seats) k) (state_of clock started places seats) (released ts k (state_of clock started places seats))
+  release_left k seats' sized f e =
+      let s = state_of clock started places seats in
+      ap (state_of clock started places) e ∙ seat_left k _ (release_seat ((at ts k).class_at (place places k)) clock (get_or seats k new_seat)) sized f
+      ∙ ap (λ x. record { clock = clock; started = started; standings = set (seated places seats) k (release_one (at ts k) clock x) }) (sym (standing_is k (task_known k _ f).0))
+      ∙ sym (ap (λ x. kept_if x s (released ts k s)) f)
+
+  pub resume_left : (k : ℕ) (seats' : List Seat) → length seats ≡ 64 → resume_fault ts (state_of clock started places seats) k ≡ None
+      → seats' ≡ set seats k (resume_seat (get_or seats k new_seat))
+      → state_of clock started places seats'
+      ≡ kept_if (resume_fault ts (state_of clock started places seats) k) (state_of clock started places seats) (resumed k (state_of clock started places seats))
+  resume_left k seats' sized f e =
+      let s = state_of clock started places seats in
+      ap (state_of clock started places) e ∙ seat_left k _ (resume_seat (get_or seats k new_seat)) sized f
+      ∙ ap (λ x. record { clock = clock; started = started; standings = set (seated places seats) k (resume_one x) }) (sym (standing_is k (task_known k _ f).0))
+      ∙ sym (ap (λ x. kept_if x s (resumed k s)) f)
 
   -- the view of a task's slot
   pub seen_is : (k : ℕ) → k < length ts → (slot : Slot) → slot ≡ (get_or seats k new_seat).slot → slot ≡ slot_of (state_of clock started places seats) k

@@ -1,5 +1,5 @@
 -- A tick, task by task. Assumes nothing.
-use Rattle.std.specs.Prelude.{◌≡◌, ℕ, ◌<◌, ◌≤◌, Bool, List, [], ◌∷◌, length, Some, None, Option, slice_index_or, slice_set}
+use Rattle.std.specs.Prelude.{◌≡◌, ℕ, ◌<◌, ◌≤◌, Bool, List, [], ◌∷◌, length, Some, None, Option, slice_index_or}
 use Rattle.group.specs.Task.{Task, at, place}
 use Rattle.dispatcher.specs.declared.slot.Seat.{Seat}
 use Rattle.dispatcher.specs.Slots.{way_of}
@@ -9,11 +9,6 @@ use Rattle.dispatcher.specs.State.{new_seat, is_running, tick_seat, settled_plac
 abbrev pub listed : {A : Type 0} → Option A → List A
 listed None = []
 listed (Some x) = x ∷ []
-
--- a list of records once one, if there is one, was written at a place
-abbrev pub noted : {A : Type 0} → List A → (place : ℕ) → Option A → List A
-noted xs place None = xs
-noted xs place (Some x) = slice_set xs place x
 
 -- The seats and positions once a tick has passed for the tasks below n: theirs are as the tick leaves them, the others as before.
 pub record Passed (ts : List Task) (clock : ℕ) (mark : Bool) (ran : Option ℕ) (n : ℕ) (seats seats' : List Seat) (places places' : List ℕ) : Type 0 where

@@ -6,6 +6,7 @@ ghost use Rattle.denial.specs.Numbers.{denied};
 ghost use Rattle.dispatcher.specs.Slots.{is_halted};
 ghost use Rattle.dispatcher.specs.Refusals.{unstarted_fault, no_task_fault, too_soon, seat_fault, room_fault};
 
+use crate::seats::SEATS;
 use crate::slot::{Seat, Slot};
 use denial::{Denial, Rule};
 
@@ -13,7 +14,7 @@ use denial::{Denial, Rule};
 pub(crate) fn check_started(started: bool, count: u16) -> Result<(), Denial>
     ensures { result ≡ unless (unstarted_fault started count) tt }
 {
-    if started && count <= 64 {
+    if started && usize::from(count) <= SEATS {
         Ok(())
     } else {
         Err(Rule::NotStarted.denies(0, 0))

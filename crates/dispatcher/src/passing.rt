@@ -5,7 +5,7 @@ ghost use Rattle.dispatcher.specs.Slots.{used_of, way_of, end_record};
 ghost use Rattle.dispatcher.specs.State.{new_seat, is_running, tick_seat, settled_place, state_of, pending_count};
 ghost use Rattle.dispatcher.specs.Records.{ends_upto};
 ghost use Rattle.dispatcher.specs.Steady.{Steady};
-ghost use Rattle.dispatcher.specs.Passing.{listed, noted, Passed};
+ghost use Rattle.dispatcher.specs.Passing.{listed, Passed};
 
 use crate::end::End;
 use crate::seats::Table;
@@ -50,19 +50,23 @@ fn pass_task<G: Group>(group: &mut G, table: &mut Table, tick: Tick, task: u16) 
     })
 }
 
-// Puts a record, if there is one, behind those that the list has: how many it has then. List and count stay apart: the one is the
-// caller's and the other the tick's answer, so a struct of both would be made and taken apart for the one loop below.
-fn note(ends: &mut [End], count: usize, end: Option<End>) -> usize
-    requires { count + length (listed end) ≤ length ends.old }
-    ensures count { result ≡ count + length (listed end) }
-    ensures ends { ends.new ≡ noted ends.old count end }
-{
-    match end {
-        Some(record) => {
-            ends[count] = record;
-            count + 1
-        }
-        None => count,
+// The caller's list for ends, and how many records stand at its front.
+#[derive(Drop)]
+struct Records<'a> {
+    list: &'a mut [End],
+    count: usize,
+}
+
+impl<'a> Records<'a> {
+    // Puts a record behind those that are there.
+    fn push(&mut self, end: End)
+        requires { self.old.count < length self.old.list.now }
+        ensures same { self.new.list.ghost_name ≡ self.old.list.ghost_name }
+        ensures list { self.new.list.now ≡ slice_set self.old.list.now self.old.count end }
+        ensures count { self.new.count ≡ self.old.count + 1 }
+    {
+        self.list[self.count] = end;
+        self.count += 1;
     }
 }
 
@@ -84,10 +88,14 @@ pub(crate) fn pass_all<G: Group>(
     ensures ends { ends.new ≡ ends_upto (G.tasks group.old) (state_of tick.clock true (G.places group.old) table.old.seats) tick.mark tick.ran
         (length (G.tasks group.old)) ++ drop result ends.old }
 {
-    let mut count = 0;
+    let mut records = Records {
+        list: ends,
+        count: 0,
+    };
     for task in 0..group.count() {
-        let end = pass_task(group, table, tick, task);
-        count = note(ends, count, end);
+        if let Some(end) = pass_task(group, table, tick, task) {
+            records.push(end);
+        }
     }
-    count
+    records.count
 }

@@ -10,5 +10,6 @@ invariant-loop-task g l =
     let s = state_of l.tick.clock true (g.G.Group.places l.initial.group) l.initial.table.seats in
     (g.G.Group.tasks l.group ≡ ts)
     × Passed ts l.tick.clock l.tick.mark l.tick.ran l.task l.initial.table.seats l.table.seats (g.G.Group.places l.initial.group) (g.G.Group.places l.group)
-    × (l.count ≡ length (ends_upto ts s l.tick.mark l.tick.ran l.task))
-    × (l.ends ≡ ends_upto ts s l.tick.mark l.tick.ran l.task ++ drop l.count l.initial.ends)
+    × (l.records.count ≡ length (ends_upto ts s l.tick.mark l.tick.ran l.task))
+    × (l.records.list.now ≡ ends_upto ts s l.tick.mark l.tick.ran l.task ++ drop l.records.count l.initial.records.list.now)
+    × (l.records.list.ghost_name ≡ l.initial.records.list.ghost_name)
