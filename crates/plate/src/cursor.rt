@@ -4,7 +4,6 @@ ghost use Rattle.denial.specs.Checks.{unless};
 ghost use Rattle.plate.specs.Bits.{field};
 ghost use Rattle.plate.specs.Rows.{short_fault};
 
-use super::start::RowStart;
 use denial::{Denial, Rule};
 
 #[derive(Clone, Copy)]
@@ -40,17 +39,6 @@ impl<'a> Cursor<'a> {
         let low = from + n - 8;
         within_byte(self.plate[at], from, 8 - from) * (1 << low)
             + within_byte(self.plate[at + 1], 0, low)
-    }
-
-    // Where row number `row` starts, if it is the next.
-    pub(crate) fn row_start(&self, row: u16) -> RowStart
-        requires { self.now.place < 2 ^ 13 }
-        ensures { (result.row ≡ row) × (result.place ≡ self.now.place) }
-    {
-        RowStart {
-            row,
-            place: self.place as u16,
-        }
     }
 
     // The plate has n bytes more of a row.

@@ -10,6 +10,7 @@ use super::cursor::Cursor;
 use super::reader::{Counts, Position, Reader};
 use super::row::Row;
 use super::rows::{counted_row, framed_row};
+use super::start::RowStart;
 use denial::{Denial, Rule};
 
 // Each number of rows is at most 16, and they are not both 0.
@@ -82,6 +83,16 @@ impl<'a> Position<'a> {
         }
     }
 
+    // Where the next row starts.
+    fn row_start(&self) -> RowStart
+        ensures { (result.row ≡ self.now.row) × (result.place ≡ self.now.cursor.place) }
+    {
+        RowStart {
+            row: self.row,
+            place: self.cursor.place as u16,
+        }
+    }
+
     // Nothing stands after the last row.
     fn check_end(&self) -> Result<(), Denial>
         ensures { result ≡ unless (extra_fault (plate_at self.now) (state_at self.now).place) tt }
@@ -100,14 +111,15 @@ impl<'a> Position<'a> {
             (next_row (plate_at self.old) (state_at self.old)) }
         ensures after { is_ok result ≡ true → state_at self.new ≡ after_row (plate_at self.old) (state_at self.old) }
     {
+        let start = self.row_start();
         let mut cursor = self.cursor;
         if self.counted > 0 {
-            let row = counted_row(&mut cursor, self.row)?;
+            let row = counted_row(&mut cursor, start)?;
             *self = self.past(cursor, self.counted - 1, self.framed);
             return Ok(Some(row));
         }
         if self.framed > 0 {
-            let row = framed_row(&mut cursor, self.row)?;
+            let row = framed_row(&mut cursor, start)?;
             *self = self.past(cursor, self.counted, self.framed - 1);
             return Ok(Some(row));
         }

@@ -16,9 +16,10 @@ use denial::{Denial, Rule};
 // The two kinds of row differ in the fields of their heads and in the rules that they keep. What they share is in the cursor
 // and in the start of a row: a trait over both heads would have five members and their laws for one short function.
 
-// The fixed fields of a miss-counted row: gap 12 bits, budget 12, tolerated misses 3, spare 5.
+// Where a miss-counted row starts, and its fixed fields: gap 12 bits, budget 12, tolerated misses 3, spare 5.
 #[derive(Clone, Copy)]
 struct CountedHead {
+    start: RowStart,
     gap: u16,
     budget: u16,
     classes: usize,
@@ -26,20 +27,22 @@ struct CountedHead {
 }
 
 impl CountedHead {
-    fn read(cursor: &mut Cursor) -> Self
-        requires { (cursor.old.place % 8 ≡ 0) × ((cursor.old.place < 2 ^ 13) × (cursor.old.place / 8 + 4 ≤ length cursor.old.plate.now)) }
+    fn read(cursor: &mut Cursor, start: RowStart) -> Self
+        requires { (cursor.old.place ≡ start.place) × (start.place / 8 + 4 ≤ length cursor.old.plate.now) }
         ensures plate { cursor.new.plate.now ≡ cursor.old.plate.now }
-        ensures gap { result.gap ≡ field cursor.old.plate.now cursor.old.place 12 }
-        ensures budget { result.budget ≡ field cursor.old.plate.now (cursor.old.place + 12) 12 }
-        ensures classes { (result.classes ≡ ranks_count cursor.old.plate.now cursor.old.place) × (result.classes ≤ 8) }
-        ensures spare { result.spare ≡ field cursor.old.plate.now (cursor.old.place + 27) 5 }
-        ensures place { cursor.new.place ≡ cursor.old.place + 32 }
+        ensures start { result.start ≡ start }
+        ensures gap { result.gap ≡ field cursor.old.plate.now start.place 12 }
+        ensures budget { result.budget ≡ field cursor.old.plate.now (start.place + 12) 12 }
+        ensures classes { (result.classes ≡ ranks_count cursor.old.plate.now start.place) × (result.classes ≤ 8) }
+        ensures spare { result.spare ≡ field cursor.old.plate.now (start.place + 27) 5 }
+        ensures place { cursor.new.place ≡ start.place + 32 }
     {
         let gap = cursor.field(12);
         let budget = cursor.field(12);
         let misses = cursor.field(3);
         let spare = cursor.field(5);
         CountedHead {
+            start,
             gap,
             budget,
             classes: usize::from(misses) + 1,
@@ -48,30 +51,28 @@ impl CountedHead {
     }
 
     // The complete row keeps its rules.
-    fn check(self, start: RowStart, ranks: &[u8]) -> Result<(), Denial>
-        ensures { result ≡ unless (counted_content start.row start.place self.gap self.budget self.spare ranks.now) tt }
+    fn check(self, ranks: &[u8]) -> Result<(), Denial>
+        ensures { result ≡ unless (counted_content self.start.row self.start.place self.gap self.budget self.spare ranks.now) tt }
     {
-        check_spare(start, 27, self.spare)?;
-        check_counted(start, self.gap, self.budget, ranks)
+        check_spare(self.start, 27, self.spare)?;
+        check_counted(self.start, self.gap, self.budget, ranks)
     }
 }
 
 // A miss-counted row: its fixed fields, and a rank byte for each class.
 #[tactic(auto, unfolding(crate::specs::Rows::counted_denial))]
-pub(crate) fn counted_row<'a>(cursor: &mut Cursor<'a>, row: u16) -> Result<Row<'a>, Denial>
-    requires { (cursor.old.place % 8 ≡ 0) × (cursor.old.place < 2 ^ 13 - 256) }
+pub(crate) fn counted_row<'a>(cursor: &mut Cursor<'a>, start: RowStart) -> Result<Row<'a>, Denial>
+    requires { cursor.old.place ≡ start.place }
     ensures plate { cursor.new.plate.now ≡ cursor.old.plate.now }
-    ensures result { told result ≡ unless (counted_denial cursor.old.plate.now cursor.old.place row)
-        (counted_here cursor.old.plate.now cursor.old.place) }
-    ensures place { is_ok result ≡ true → cursor.new.place
-        ≡ cursor.old.place + counted_bits cursor.old.plate.now cursor.old.place }
+    ensures result { told result ≡ unless (counted_denial cursor.old.plate.now start.place start.row)
+        (counted_here cursor.old.plate.now start.place) }
+    ensures place { is_ok result ≡ true → cursor.new.place ≡ start.place + counted_bits cursor.old.plate.now start.place }
 {
-    let start = cursor.row_start(row);
-    cursor.check_left(row, 4)?;
-    let head = CountedHead::read(cursor);
+    cursor.check_left(start.row, 4)?;
+    let head = CountedHead::read(cursor, start);
     let place = cursor.place;
-    let ranks = cursor.bytes(row, head.classes)?;
-    head.check(start, ranks)?;
+    let ranks = cursor.bytes(start.row, head.classes)?;
+    head.check(ranks)?;
     Ok(Row::MissCounted {
         gap: head.gap,
         budget: head.budget,
@@ -80,27 +81,30 @@ pub(crate) fn counted_row<'a>(cursor: &mut Cursor<'a>, row: u16) -> Result<Row<'
     })
 }
 
-// The fixed fields of a frame row: gap 12 bits, frames less one 3, spare 1.
+// Where a frame row starts, and its fixed fields: gap 12 bits, frames less one 3, spare 1.
 #[derive(Clone, Copy)]
 struct FramedHead {
+    start: RowStart,
     gap: u16,
     count: usize,
     spare: u16,
 }
 
 impl FramedHead {
-    fn read(cursor: &mut Cursor) -> Self
-        requires { (cursor.old.place % 8 ≡ 0) × ((cursor.old.place < 2 ^ 13) × (cursor.old.place / 8 + 2 ≤ length cursor.old.plate.now)) }
+    fn read(cursor: &mut Cursor, start: RowStart) -> Self
+        requires { (cursor.old.place ≡ start.place) × (start.place / 8 + 2 ≤ length cursor.old.plate.now) }
         ensures plate { cursor.new.plate.now ≡ cursor.old.plate.now }
-        ensures gap { result.gap ≡ field cursor.old.plate.now cursor.old.place 12 }
-        ensures count { (result.count ≡ frames_count cursor.old.plate.now cursor.old.place) × (result.count ≤ 8) }
-        ensures spare { result.spare ≡ field cursor.old.plate.now (cursor.old.place + 15) 1 }
-        ensures place { cursor.new.place ≡ cursor.old.place + 16 }
+        ensures start { result.start ≡ start }
+        ensures gap { result.gap ≡ field cursor.old.plate.now start.place 12 }
+        ensures count { (result.count ≡ frames_count cursor.old.plate.now start.place) × (result.count ≤ 8) }
+        ensures spare { result.spare ≡ field cursor.old.plate.now (start.place + 15) 1 }
+        ensures place { cursor.new.place ≡ start.place + 16 }
     {
         let gap = cursor.field(12);
         let less_one = cursor.field(3);
         let spare = cursor.field(1);
         FramedHead {
+            start,
             gap,
             count: usize::from(less_one) + 1,
             spare,
@@ -108,15 +112,15 @@ impl FramedHead {
     }
 
     // The complete row keeps its rules.
-    fn check(self, start: RowStart, bytes: &[u8]) -> Result<(), Denial>
+    fn check(self, bytes: &[u8]) -> Result<(), Denial>
         requires { length bytes.now ≤ 24 }
-        ensures { result ≡ unless (framed_content start.row start.place self.gap self.spare bytes.now) tt }
+        ensures { result ≡ unless (framed_content self.start.row self.start.place self.gap self.spare bytes.now) tt }
     {
-        check_spare(start, 15, self.spare)?;
+        check_spare(self.start, 15, self.spare)?;
         if let Some(i) = first_spare(bytes) {
-            return Err(start.denies(Rule::Spare, 36 + 24 * i as u16));
+            return Err(self.start.denies(Rule::Spare, 36 + 24 * i as u16));
         }
-        check_unpacked(start, self.gap, bytes)
+        check_unpacked(self.start, self.gap, bytes)
     }
 }
 
@@ -132,20 +136,18 @@ fn check_unpacked(start: RowStart, gap: u16, bytes: &[u8]) -> Result<(), Denial>
 
 // A frame row: its fixed fields, and three bytes for each frame.
 #[tactic(auto, unfolding(crate::specs::Rows::framed_denial))]
-pub(crate) fn framed_row<'a>(cursor: &mut Cursor<'a>, row: u16) -> Result<Row<'a>, Denial>
-    requires { (cursor.old.place % 8 ≡ 0) × (cursor.old.place < 2 ^ 13 - 256) }
+pub(crate) fn framed_row<'a>(cursor: &mut Cursor<'a>, start: RowStart) -> Result<Row<'a>, Denial>
+    requires { cursor.old.place ≡ start.place }
     ensures plate { cursor.new.plate.now ≡ cursor.old.plate.now }
-    ensures result { told result ≡ unless (framed_denial cursor.old.plate.now cursor.old.place row)
-        (framed_here cursor.old.plate.now cursor.old.place) }
-    ensures place { is_ok result ≡ true → cursor.new.place
-        ≡ cursor.old.place + framed_bits cursor.old.plate.now cursor.old.place }
+    ensures result { told result ≡ unless (framed_denial cursor.old.plate.now start.place start.row)
+        (framed_here cursor.old.plate.now start.place) }
+    ensures place { is_ok result ≡ true → cursor.new.place ≡ start.place + framed_bits cursor.old.plate.now start.place }
 {
-    let start = cursor.row_start(row);
-    cursor.check_left(row, 2)?;
-    let head = FramedHead::read(cursor);
+    cursor.check_left(start.row, 2)?;
+    let head = FramedHead::read(cursor, start);
     let place = cursor.place;
-    let frames = cursor.bytes(row, 3 * head.count)?;
-    head.check(start, frames)?;
+    let frames = cursor.bytes(start.row, 3 * head.count)?;
+    head.check(frames)?;
     Ok(Row::Frames {
         gap: head.gap,
         frames,

@@ -9,10 +9,17 @@ pub fn same(a: &[u8], b: &[u8]) -> bool
     a == b
 }
 
+// Whether two bytes differ.
+fn differ(x: u8, y: u8) -> bool
+    ensures { result ≡ not (x == y) }
+{
+    x != y
+}
+
 // The first byte in which two plates differ, as far as both go.
 pub fn first_difference(a: &[u8], b: &[u8]) -> Option<usize>
     ensures { result ≡ first (λ i. not (slice_index a.now i == slice_index b.now i))
         (min (length a.now) (length b.now)) }
 {
-    a.iter().zip(b).position(|(x, y)| *x != *y)
+    a.iter().zip(b).position(|(x, y)| differ(*x, *y))
 }

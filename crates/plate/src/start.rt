@@ -1,15 +1,16 @@
 // Where a row starts.
-ghost use Rattle.std.specs.Prelude.{◌≡◌, ◌+◌, ◌^◌, ◌<◌};
+ghost use Rattle.std.specs.Prelude.{◌≡◌, ◌+◌, ◌%◌, ◌^◌, ◌<◌, ◌≤◌};
 ghost use Rattle.denial.specs.Numbers.{denied};
 
 use denial::{Denial, Rule};
 
-// The number of a row and the bit place of its first field.
+// The number of a row and the bit place of its first field, which is the first of a byte.
 #[derive(Clone, Copy)]
 pub(crate) struct RowStart {
     pub(crate) row: u16,
     pub(crate) place: u16,
-    ghost near: { place < 2 ^ 13 },
+    ghost aligned: { place % 8 ≡ 0 },
+    ghost near: { place ≤ 4880 },
 }
 
 impl RowStart {
