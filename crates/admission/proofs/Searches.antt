@@ -71,11 +71,6 @@ sharer_found ts n (d ∷ ds) =
     ∙ ap (lower_of (first (λ i. uses (at ts i).classes d.rank) n)) (sharer_found ts n ds)
     ∙ sym (first_either (λ i. uses (at ts i).classes d.rank) (λ i. share (at ts i).classes ds) n)
 
--- what is found of what a list was made of
-pub filter_map_made : {A B C : Type 0} (f : B → Option C) (h : A → B) (xs : List A) → filter_map (λ x. f (h x)) xs ≡ filter_map f (map h xs)
-filter_map_made f h [] = refl
-filter_map_made f h (x ∷ xs) = ap (cons_option (f (h x))) (filter_map_made f h xs)
-
 -- the first that passes, if it is below t
 pub first_below : (p : ℕ → Bool) (n t : ℕ) (o r : Option ℕ) → o ≡ first p n → MatchOption o (r ≡ None) (λ x. r ≡ then_some (nat_lt x t) x)
     → r ≡ first (λ i. nat_lt i t && p i) n
@@ -94,10 +89,3 @@ first_below p n t o r e h = sym (first_is (λ i. nat_lt i t && p i) n r (below o
         at_test : (b : Bool) → nat_lt x t ≡ b → Searched (λ i. nat_lt i t && p i) n (then_some b x)
         at_test true q = (s.0, and_from (nat_lt x t) (p x) q s.1, λ j l. and_right (nat_lt j t) (p j) (s.2 j l))
         at_test false q = λ j l. unpassed j (ltb-false x t q) l
-
--- the task that a mark names
-pub unmarked : (o r : Option ℕ) (byte : ℕ) → byte ≡ mark_of o → SomeIff r (1 ≤ byte) (byte - 1) → r ≡ o
-unmarked None None byte e h = refl
-unmarked None (Some x) byte e h = absurd (omega (arith, h.0))
-unmarked (Some i) None byte e h = absurd (h (omega arith))
-unmarked (Some i) (Some x) byte e h = let q : x ≡ i = omega (arith, h.1) in ap Some q

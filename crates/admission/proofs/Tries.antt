@@ -20,6 +20,7 @@ use Rattle.find.specs.First.{first, first_pair}
 use Rattle.group.specs.Task.{Task, at}
 use Rattle.admission.specs.Start.{lacking, unbounded_fault}
 use Rattle.admission.specs.Ranks.{classes_fault}
+use Rattle.admission.proofs.Verdict.{refused}
 
 -- a pair of k and what was found
 abbrev with_first : ℕ → Option ℕ → Option (ℕ × ℕ)
@@ -60,10 +61,6 @@ a_fault fault (suc n) i d l e h = elim (cases_lt i n) [
   | inr m ↦ (let q : i ≡ n = omega arith in
       ap (λ o. option_or o (fault n)) (no_fault fault n (λ k j. h k (omega arith))) ∙ ap fault (sym q) ∙ e)
 ]
-
-failed : (o : Option Denial) (v : Result (Unit {0}) Denial) (d : Denial) → v ≡ unless o tt → v ≡ Err d → o ≡ Some d
-failed None v d e q = absurd (let z : ◌≡◌ {A = Result (Unit {0}) Denial} (Ok tt) (Err d) = sym e ∙ q in cc)
-failed (Some x) v d e q = let z : ◌≡◌ {A = Result (Unit {0}) Denial} (Err x) (Err d) = sym e ∙ q in cc
 
 -- what `?` makes of a refusal
 pub err_is : (r : Result (Unit {0}) Denial) (d : Denial) → IsErrAnd r (λ x. x ≡ d) → r ≡ Err d
@@ -109,5 +106,5 @@ tried {F} {E} {g} {f} branches resumes s r (p, from, run) n e fault calls goes s
         let k = called keeps in
         let here = subst (λ o. IsSomeAnd o (CallBranches p g f branches (Break x))) (there i m) k.0 in
         let stop = stops here.0 r x here.2 resumed in
-        stop.2 ∙ sym (ap (λ o. unless o tt) (a_fault fault n i stop.0 (omega (arith, counts.0)) (failed (fault i) here.0 stop.0 (calls i here.0 f here.1).1 stop.1)
+        stop.2 ∙ sym (ap (λ o. unless o tt) (a_fault fault n i stop.0 (omega (arith, counts.0)) (refused (fault i) stop.0 (sym (calls i here.0 f here.1).1 ∙ stop.1))
         (λ j l. let t : j < p.len = omega arith in clean j (subst (λ o. IsSomeAnd o (CallBranches p g f branches (Continue tt))) (there j t) (k.1 j l)))))

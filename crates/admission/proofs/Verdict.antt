@@ -11,7 +11,7 @@ use Rattle.find.proofs.Firsts.{pair_says, pair_is}
 use Rattle.group.specs.declared.meaning.Terms.{Terms}
 use Rattle.group.specs.Task.{Task, Class, at, terms_of, no_terms}
 use Rattle.bounds.specs.Bound.{bound, count_fault}
-use Rattle.bounds.proofs.Checked.{both_clear, when_clear, count_clear}
+use Rattle.bounds.proofs.Checked.{clear, both_clear, when_clear, count_clear}
 use Rattle.bounds.proofs.Least.{bound_absent, bound_least}
 use Rattle.admission.specs.Start.{uses, share, sharing, shared_fault, lacking, unbounded_fault, early_fault, plan_fault, start_fault, Shares, Lacks, Startable, StartLaw}
 
@@ -126,6 +126,14 @@ lacks_lacking ts k c s =
 
 -- The start ------------------------------------------------------------------------------------------------------------------
 
+abbrev pub answer : Option Denial → Result (Unit {0}) Denial
+answer f = unless f tt
+
+-- a refusal is the fault
+pub refused : (f : Option Denial) (x : Denial) → answer f ≡ Err x → f ≡ Some x
+refused None x e = absurd (let z : ◌≡◌ {A = ℕ} 0 1 = cc in omega arith)
+refused (Some d) x e = let q : d ≡ x = cc in ap Some q
+
 module _ (ts : List Task) where
   pub startable : 1 ≤ length ts → length ts ≤ 64 → plan_fault ts ≡ None → Startable ts
   startable low few e =
@@ -236,21 +244,10 @@ module _ (ts : List Task) where
           let y : suc b ≡ c = ap (λ y. y.second) d in
           (b, sym y, (let w : ◌≡◌ {A = Option (ℕ × ℕ)} (Some (a, b)) (Some (k, b)) = cc in w))
 
-  abbrev pub answer : Option Denial → Result (Unit {0}) Denial
-  answer f = unless f tt
-
-  pub accepted : (f : Option Denial) → answer f ≡ Ok tt → f ≡ None
-  accepted None e = refl
-  accepted (Some d) e = absurd (let z : ◌≡◌ {A = ℕ} 0 1 = cc in omega arith)
-
-  pub refused : (f : Option Denial) (x : Denial) → answer f ≡ Err x → f ≡ Some x
-  refused None x e = absurd (let z : ◌≡◌ {A = ℕ} 0 1 = cc in omega arith)
-  refused (Some d) x e = let q : d ≡ x = cc in ap Some q
-
   pub start_says : (started : Bool) (room : ℕ) → StartLaw started room ts (answer (start_fault started room ts))
   start_says started room = record {
     accepts = λ e h s. ap answer (ap (λ f. option_or f (plan_fault ts)) (early_clear started room e h s.some_task s.few) ∙ plan_clear s);
-    only = λ e. (let p = both_clear (early_fault started room ts) (plan_fault ts) (accepted _ e) in
+    only = λ e. (let p = both_clear (early_fault started room ts) (plan_fault ts) (clear _ tt tt (sym e)) in
         let q = early_passed started room p.0 in
         (q.0, q.1, startable q.2 q.3 p.1));
     shared = λ i j e. (let p = shared_named i j (past_early started room (denied SharedRank i j) (omega arith) (refused _ _ e)) in

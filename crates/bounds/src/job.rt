@@ -10,10 +10,10 @@ use group::Group;
 
 // How many jobs of a task with this gap can be released within `ticks` ticks at most.
 fn jobs_within(ticks: u16, gap: u16) -> u16
-    requires { (1 ≤ gap) × ((gap ≤ 4095) × (ticks ≤ 4095)) }
+    requires { 1 ≤ gap }
     ensures { result ≡ jobs ticks gap }
 {
-    (ticks + (gap - 1)) / gap
+    ticks.div_ceil(gap)
 }
 
 // As many ticks as are asked for, if the gap has so many.
@@ -73,7 +73,7 @@ impl<'g, G: Group> Job<'g, G> {
 
     // What another task can ask for above its rank within `ticks` ticks; its own task asks for nothing here.
     fn request(&self, other: u16, ticks: u16) -> u32
-        requires { (other < length (G.tasks self.now.group.now)) × (ticks ≤ 4095) }
+        requires { other < length (G.tasks self.now.group.now) }
         ensures { result ≡ request (G.tasks self.now.group.now) self.now.task ticks self.now.rank other }
     {
         if other == self.task {
@@ -85,9 +85,8 @@ impl<'g, G: Group> Job<'g, G> {
 
     // What all other tasks can ask for above its rank within `ticks` ticks.
     fn requests(&self, ticks: u16) -> u32
-        requires { ticks ≤ 4095 }
-        ensures value { result ≡ sum (length (G.tasks self.now.group.now))
-            (request (G.tasks self.now.group.now) self.now.task ticks self.now.rank) }
+        ensures value { let ts = G.tasks self.now.group.now in
+            result ≡ sum (length ts) (request ts self.now.task ticks self.now.rank) }
         ensures small { result ≤ 64 * (4095 * 4095) }
     {
         (0..self.group.count())
@@ -97,7 +96,6 @@ impl<'g, G: Group> Job<'g, G> {
 
     // What the job and all that can run before it ask for within `ticks` ticks.
     fn workload(&self, ticks: u16) -> u32
-        requires { ticks ≤ 4095 }
         ensures { result ≡ workload (G.tasks self.now.group.now) self.now.task self.now.class ticks }
     {
         u32::from(self.own) + self.requests(ticks)
