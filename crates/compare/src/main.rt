@@ -1,74 +1,82 @@
 // Compares the plate read back from a box with the order: prints the rows of each, and whether they are the same.
 #![tactic(auto)]
 
-use anyhow::anyhow;
-use denial::Denial;
+use anyhow::{anyhow, bail};
 use kinds::{FrameRow, FrameTable, MissCountedRow, MissCountedTable};
 use plan::load::load;
+use plate::frame::Frame;
 use plate::same::{first_difference, same};
-use std::{env, fs, io};
+use std::{env, fmt, fs, io};
 
-fn print_class(
-    rt: &impl Print,
-    name: &str,
-    number: usize,
-    rank: u8,
-    budget: u16,
-) -> io::Result<()> {
-    println!(rt; "  {name} {number} rank {rank} budget {budget}")
+// A row, with the number of its task.
+#[derive(Drop)]
+struct Task<'a, R> {
+    number: u16,
+    row: &'a R,
 }
 
-fn print_counted(rt: &impl Print, task: u16, row: &MissCountedRow) -> io::Result<()> {
-    let gap = row.gap;
-    println!(rt; "task {task} miss-counted gap {gap}")?;
-    for (i, rank) in row
-        .ranks
-        .iter()
-        .take(usize::from(row.misses) + 1)
-        .enumerate()
-    {
-        print_class(rt, "class", i.saturating_add(1), *rank, row.budget)?;
+impl fmt::Display for Task<'_, MissCountedRow> {
+    fn fmt<W: fmt::Write>(&self, f: &mut fmt::Formatter<W>) -> fmt::Result {
+        let MissCountedRow {
+            gap,
+            budget,
+            misses,
+            ranks,
+        } = self.row;
+        writeln!(f, "task {} miss-counted gap {gap}", self.number)?;
+        for (i, rank) in ranks.iter().take(usize::from(*misses) + 1).enumerate() {
+            writeln!(f, "  class {} rank {rank} budget {budget}", i + 1)?;
+        }
+        Ok(())
     }
-    Ok(())
 }
 
-fn print_frames(rt: &impl Print, task: u16, row: &FrameRow) -> io::Result<()> {
-    let gap = row.gap;
-    println!(rt; "task {task} frames gap {gap}")?;
-    for (i, frame) in row.frames.iter().take(usize::from(row.count)).enumerate() {
-        print_class(rt, "frame", i.saturating_add(1), frame.rank, frame.budget)?;
+impl fmt::Display for Task<'_, FrameRow> {
+    fn fmt<W: fmt::Write>(&self, f: &mut fmt::Formatter<W>) -> fmt::Result {
+        let FrameRow { gap, count, frames } = self.row;
+        writeln!(f, "task {} frames gap {gap}", self.number)?;
+        for (i, frame) in frames.iter().take(usize::from(*count)).enumerate() {
+            let Frame { budget, rank } = frame;
+            writeln!(f, "  frame {} rank {rank} budget {budget}", i + 1)?;
+        }
+        Ok(())
     }
-    Ok(())
 }
 
 // The rows of both tables, numbered as tasks.
-fn print_tables(
-    rt: &impl Print,
-    counted: &MissCountedTable,
-    frames: &FrameTable,
-) -> io::Result<()> {
-    let before = u16::from(counted.len());
-    for i in 0..before {
-        if let Some(row) = counted.row(i) {
-            print_counted(rt, i, row)?;
+#[derive(Drop)]
+struct Rows {
+    counted: MissCountedTable,
+    frames: FrameTable,
+}
+
+impl fmt::Display for Rows {
+    fn fmt<W: fmt::Write>(&self, f: &mut fmt::Formatter<W>) -> fmt::Result {
+        let before = u16::from(self.counted.len());
+        for number in 0..before {
+            if let Some(row) = self.counted.row(number) {
+                write!(f, "{}", Task { number, row })?;
+            }
         }
-    }
-    for i in 0..u16::from(frames.len()) {
-        if let Some(row) = frames.row(i) {
-            print_frames(rt, before.saturating_add(i), row)?;
+        for i in 0..u16::from(self.frames.len()) {
+            if let Some(row) = self.frames.row(i) {
+                let number = before.saturating_add(i);
+                write!(f, "{}", Task { number, row })?;
+            }
         }
+        Ok(())
     }
-    Ok(())
 }
 
 // A plate's rows, or its first fault.
 fn print_plate(rt: &impl Print, name: &str, plate: &[u8]) -> io::Result<()> {
-    let bytes = plate.len();
-    println!(rt; "{name}: {bytes} bytes")?;
-    let mut counted = MissCountedTable::new();
-    let mut frames = FrameTable::new();
-    match load(plate, &mut counted, &mut frames) {
-        Ok(()) => print_tables(rt, &counted, &frames),
+    println!(rt; "{name}: {} bytes", plate.len())?;
+    let mut rows = Rows {
+        counted: MissCountedTable::new(),
+        frames: FrameTable::new(),
+    };
+    match load(plate, &mut rows.counted, &mut rows.frames) {
+        Ok(()) => print!(rt; "{rows}"),
         Err(denial) => println!(rt; "{denial}"),
     }
 }
@@ -78,33 +86,24 @@ fn print_verdict(rt: &impl Print, plate: &[u8], order: &[u8]) -> io::Result<()> 
         return println!(rt; "same");
     }
     let (a, b) = (plate.len(), order.len());
-    if a != b {
-        return println!(rt; "different: {a} bytes and {b} bytes");
-    }
     match first_difference(plate, order) {
-        Some(i) if i < a && i < b => {
+        Some(i) if a == b && i < a => {
             let (x, y) = (plate[i], order[i]);
             println!(rt; "different: byte {i} is {x:02X} and {y:02X}")
         }
-        _ => println!(rt; "different"),
+        _ => println!(rt; "different: {a} bytes and {b} bytes"),
     }
 }
 
 // A file's bytes, or a message that names it.
 fn read(rt: &HostRuntime, name: &str) -> anyhow::Result<Vec<u8>> {
-    match fs::read(rt, name) {
-        Ok(bytes) => Ok(bytes),
-        Err(error) => Err(anyhow!(format!(in rt.alloc(); "cannot read {name}: {error}")?)),
-    }
+    fs::read(rt, name).map_err(|error| anyhow!("cannot read {name}: {error}"))
 }
 
 fn run(rt: &HostRuntime) -> anyhow::Result<()> {
-    let mut args = env::args(rt)?;
-    let _ = args.next();
+    let mut args = env::args(rt)?.skip(1);
     let (Some(plate), Some(order), None) = (args.next(), args.next(), args.next()) else {
-        return Err(anyhow!(
-            "usage: compare PLATE ORDER (the plate read back from the box, and the order)"
-        ));
+        bail!("usage: compare PLATE ORDER (the plate read back from the box, and the order)");
     };
     let a = read(rt, plate.as_str())?;
     let b = read(rt, order.as_str())?;

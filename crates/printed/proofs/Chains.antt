@@ -1,46 +1,31 @@
 -- Texts put one behind another.
-use Rattle.std.proofs.Common.{◌≡◌, ℕ, ◌+◌, ◌-◌, ◌≤◌, List, [], ◌++◌, length, sym, refl, ap, ◌∙◌, add-one, arith}
-use borrow.Rule.Slice.PartMut.{put_mid}
+use Rattle.std.proofs.Common.{◌≡◌, ℕ, zero, suc, ◌-◌, ◌<◌, ◌≤◌, List, ◌++◌, length, ap, arith, append_assoc}
 use Rattle.std.proofs.lemmas.List.{length-append}
-use Rattle.plate.specs.Writing.{put_at}
-use Rattle.plate.proofs.Puts.{put_is, put_put, put_none, put_length}
 use Rattle.group.specs.Task.{Task}
-use Rattle.printed.specs.declared.line.Line.{Line}
-use Rattle.printed.specs.Text.{Put, texts}
+use Rattle.printed.specs.Text.{HasRoom, texts}
 use Rattle.printed.specs.Lines.{line_of, line_text, class_text}
+use Rattle.printed.proofs.Newlines.{one_of}
 
--- a part written whole
-pub whole : (bytes part text : List ℕ) (at end : ℕ) → end ≡ at + length text → end ≤ length bytes → part ≡ text
-    → Put bytes at text (put_mid at (end - at) bytes part) end
-whole bytes part text at end e room same =
-    let is : put_mid at (end - at) bytes part ≡ put_at bytes at text = put_is at (end - at) bytes part text same (omega arith) in
-    record { place = e; kept = ap length is ∙ put_length bytes text at (omega arith); put = λ _. is }
+-- one of several texts has room behind those before it
+pub room_for : (f : ℕ → List ℕ) (i n : ℕ) (before now : List ℕ) → i < n → now ≡ before ++ texts f i → HasRoom before (texts f n) → HasRoom now (f i)
+room_for f i n before now h e room =
+    let rest = one_of f i n h in
+    let all = length-append (texts f i) (f i ++ rest.0) in
+    let here = length-append (f i) rest.0 in
+    let so_far = length-append before (texts f i) in
+    omega (arith, ap length rest.1, ap length e)
 
--- nothing
-pub nothing : (bytes : List ℕ) (at : ℕ) → Put bytes at [] bytes at
-nothing bytes at = record { place = omega arith; kept = refl; put = λ _. sym (put_none bytes at) }
+-- the line of a class has room behind those of the classes before it
+pub room_for_line : (ts : List Task) (k class n : ℕ) (before now : List ℕ) → 1 ≤ class → class ≤ n → now ≡ before ++ texts (class_text ts k) (class - 1)
+    → HasRoom before (texts (class_text ts k) n) → HasRoom now (line_text (line_of ts k class))
+room_for_line ts k zero n before now low high e room = absurd (omega arith)
+room_for_line ts k (suc j) n before now low high e room =
+    let same : suc j - 1 ≡ j = omega arith in room_for (class_text ts k) j n before now (omega arith) (rw same at e) room
 
--- one text and then another
-pub then : {bytes xs mid ys after : List ℕ} {at r s : ℕ} → Put bytes at xs mid r → Put mid r ys after s → Put bytes at (xs ++ ys) after s
-then {bytes} {xs} {mid} {ys} {after} {at} {r} {s} a b =
-    let size = length-append xs ys in
-    record {
-      place = omega (arith, a.place, b.place);
-      kept = b.kept ∙ a.kept;
-      put = λ room.
-          (let fits : at + length xs ≤ length bytes = omega (arith, a.place, b.place) in
-          b.put (omega (arith, a.kept))
-          ∙ ap (λ t. put_at t r ys) (a.put (omega (arith, a.place)))
-          ∙ ap (λ t. put_at (put_at bytes at xs) t ys) a.place
-          ∙ put_put bytes xs ys at fits);
-    }
-
--- one text more
-pub again : {bytes mid text after : List ℕ} {at r s i : ℕ} (f : ℕ → List ℕ) → text ≡ f i → Put bytes at (texts f i) mid r → Put mid r text after s
-    → Put bytes at (texts f (i + 1)) after s
-again {i = i} f e a b = rw (add-one i, ← e) (then a b)
-
--- one line more
-pub line_again : (ts : List Task) (k i : ℕ) {bytes mid after : List ℕ} {at r s : ℕ} {line : Line} → line ≡ line_of ts k (i + 1)
-    → Put bytes at (texts (class_text ts k) i) mid r → Put mid r (line_text line) after s → Put bytes at (texts (class_text ts k) (i + 1)) after s
-line_again ts k i e a b = again (class_text ts k) (ap line_text (e ∙ ap (line_of ts k) (add-one i))) a b
+-- one line more behind those of the classes before it
+pub line_more : (ts : List Task) (k class : ℕ) (before now line after : List ℕ) → 1 ≤ class → now ≡ before ++ texts (class_text ts k) (class - 1)
+    → after ≡ now ++ line → line ≡ line_text (line_of ts k class) → after ≡ before ++ texts (class_text ts k) class
+line_more ts k zero before now line after low e more is = absurd (omega arith)
+line_more ts k (suc j) before now line after low e more is =
+    let same : suc j - 1 ≡ j = omega arith in
+    rw (more, rw same at e, is) (append_assoc before (texts (class_text ts k) j) (class_text ts k j))

@@ -1,7 +1,7 @@
 -- The sheet of a plate's plan.
 use Rattle.std.proofs.Common.{◌≡◌, ℕ, ◌+◌, ◌-◌, ◌<◌, ◌≤◌, List, [], ◌++◌, map, length, Ok, Err, codes, Result, refl, inl, inr, arith, MatchResult}
 use Rattle.std.proofs.ByRecursion.{All-get_or}
-use Rattle.std.proofs.lemmas.List.{length-map, get_or-map}
+use Rattle.std.proofs.lemmas.List.{length-append, length-map, get_or-map}
 use Rattle.std.proofs.lemmas.Bool.{cases_lt}
 use Rattle.denial.specs.declared.Denial.{Denial}
 use Rattle.denial.specs.Numbers.{report}
@@ -14,6 +14,7 @@ use Rattle.kinds.specs.MissCounted.{counted_task}
 use Rattle.kinds.specs.Frames.{framed_task}
 use Rattle.kinds.specs.CountedLaws as counted
 use Rattle.kinds.specs.FramedLaws as framed
+use Rattle.printed.specs.Text.{HasRoom}
 use Rattle.printed.specs.Lines.{verdict_line}
 use Rattle.printed.specs.Sheet.{plan_tasks, front_of, fault_of, sheet_text}
 use Rattle.printed.specs.Told.{Tells, Told}
@@ -54,11 +55,22 @@ pub told : (bs : List ℕ) → Bytes bs → Told bs
 unfolding sheet_text
 told bs b = told_of bs b (decode bs) refl
 
-short_of : (bs : List ℕ) → Bytes bs → (r : Result Plan Denial) → decode bs ≡ r → length (front_of r ++ verdict_line (fault_of r)) ≤ length (front_of r) + 38
+short_of : (bs : List ℕ) → Bytes bs → (r : Result Plan Denial) → decode bs ≡ r → length (front_of r ++ verdict_line (fault_of r)) ≤ length (front_of r) + 26
     → length (front_of r ++ verdict_line (fault_of r)) ≤ 4830
 short_of bs b (Ok plan) e h = let s = (read_is_written bs b plan e).0 in text_short (plan_tasks plan) (tasks_of_plan plan s) (plan_lawful plan s)
 short_of bs b (Err d) e h = omega arith
 
-pub short : (bs : List ℕ) → Bytes bs → length (sheet_text bs) ≤ length (front_of (decode bs)) + 38 → length (sheet_text bs) ≤ 4830
+pub short : (bs : List ℕ) → Bytes bs → length (sheet_text bs) ≤ length (front_of (decode bs)) + 26 → length (sheet_text bs) ≤ 4830
 unfolding sheet_text
 short bs b h = short_of bs b (decode bs) refl h
+
+room_of : (bs : List ℕ) → Bytes bs → (r : Result Plan Denial) → decode bs ≡ r → length (front_of r) ≤ 4830
+room_of bs b (Ok plan) e =
+    let s = (read_is_written bs b plan e).0 in
+    let all = text_short (plan_tasks plan) (tasks_of_plan plan s) (plan_lawful plan s) in
+    omega (arith, length-append (front_of (Ok plan)) (verdict_line (fault_of (Ok plan))))
+room_of bs b (Err d) e = omega arith
+
+-- an empty text has room for what stands above the verdict
+pub front_room : (bs : List ℕ) → Bytes bs → HasRoom [] (front_of (decode bs))
+front_room bs b = omega (arith, room_of bs b (decode bs) refl)

@@ -1,33 +1,18 @@
--- The sheet in the caller's bytes, or a refusal.
-use Rattle.std.proofs.Common.{◌≡◌, ℕ, ◌≤◌, List, ◌++◌, length, Some, None, Ok, Err, Option, sym, ap, arith}
-use Rattle.std.proofs.lemmas.Bool.{ltb-false}
+-- The sheet of a plate, by its parts.
+use Rattle.std.proofs.Common.{◌≡◌, List, ℕ, ◌++◌, Some, None, Option, Result, refl, ap}
+use Rattle.std.specs.Result.{result_err}
 use Rattle.denial.specs.declared.Denial.{Denial}
 use Rattle.denial.specs.Checks.{unless}
 use Rattle.plate.specs.Plans.{decode}
-use Rattle.plate.specs.Writing.{put_at}
-use Rattle.plate.proofs.Nones.{when_none}
-use Rattle.printed.specs.Text.{Put}
 use Rattle.printed.specs.Lines.{verdict_line}
-use Rattle.printed.specs.Sheet.{front_of, fault_of, sheet_text, sheet_fault}
+use Rattle.printed.specs.Sheet.{front_of, fault_of, sheet_text}
 
--- the sheet by its verdict
-pub by_verdict : (bs : List ℕ) (fault : Option Denial) → fault ≡ fault_of (decode bs) → front_of (decode bs) ++ verdict_line fault ≡ sheet_text bs
+fault_back : (o : Option Denial) → result_err (unless o (tt {0})) ≡ o
+fault_back None = refl
+fault_back (Some d) = refl
+
+-- what stands above the verdict, and the verdict
+pub by_parts : (bs : List ℕ) (started : Result (Unit {0}) Denial) → started ≡ unless (fault_of (decode bs)) tt
+    → front_of (decode bs) ++ verdict_line (result_err started) ≡ sheet_text bs
 unfolding sheet_text
-by_verdict bs fault e = ap (λ f. front_of (decode bs) ++ verdict_line f) e
-
--- no room
-pub refused : (text : List ℕ) (needed room : ℕ) (d : Denial) → needed ≡ length text → Some d ≡ sheet_fault needed room
-    → Err d ≡ unless (sheet_fault (length text) room) (length text)
-refused text needed room d e h = rw (← e, ← h)
-
--- room, and the sheet put into it
-pub record Printed (bytes text after : List ℕ) (needed : ℕ) : Type 0 where
-  pub result : Ok needed ≡ unless (sheet_fault (length text) (length bytes)) (length text)
-  pub within : needed ≤ length bytes
-  pub out : after ≡ put_at bytes 0 text
-
-pub printed : (bytes text after : List ℕ) (needed end : ℕ) → needed ≡ length text → None ≡ sheet_fault needed (length bytes) → Put bytes 0 text after end
-    → Printed bytes text after needed
-printed bytes text after needed end e h p =
-    let room = ltb-false (length bytes) needed (when_none _ _ (sym h)) in
-    record { result = rw (← e, ← h); within = room; out = p.put (omega (arith, p.place)) }
+by_parts bs started e = rw e (ap (λ f. front_of (decode bs) ++ verdict_line f) (fault_back (fault_of (decode bs))))

@@ -1,16 +1,12 @@
 -- The start of a plan's tasks.
-use Rattle.std.proofs.Common.{◌≡◌, ℕ, min, false, List, ◌++◌, map, length, Some, None, Option, Result, refl, ap, ◌∙◌, arith}
-use Rattle.std.specs.Result.{result_err}
-use Rattle.std.specs.Option.{option_or}
+use Rattle.std.proofs.Common.{◌≡◌, ℕ, min, false, List, ◌++◌, map, length, None, ap, ◌∙◌, arith}
 use Rattle.std.proofs.lemmas.List.{length-take, length-append, length-map, drop_all, append-nil}
 use Rattle.std.proofs.lemmas.Bool.{ne_eqb, le-ltb}
-use Rattle.denial.specs.declared.Denial.{Denial}
-use Rattle.denial.specs.Checks.{unless}
 use Rattle.group.specs.Task.{Task}
 use Rattle.plate.specs.Plans.{Plan, Sound}
 use Rattle.kinds.specs.MissCounted.{counted_task}
 use Rattle.kinds.specs.Frames.{framed_task}
-use Rattle.admission.specs.Start.{early_fault, start_fault, plan_fault, scratch_after, marks}
+use Rattle.admission.specs.Start.{early_fault, scratch_after, marks}
 use Rattle.printed.specs.Sheet.{plan_tasks, FewTasks}
 
 -- a plan has as many tasks as rows
@@ -28,15 +24,6 @@ tasks_of_plan plan s =
 pub no_early : (room : ℕ) (ts : List Task) → room ≡ 256 → FewTasks ts → early_fault false room ts ≡ None
 no_early room ts e s =
     rw (e, ne_eqb (length ts) 0 (λ z. omega (arith, s.0, z)), le-ltb 64 (length ts) (omega (arith, s.1)))
-
--- what the start says
-pub verdict_is : (room : ℕ) (ts : List Task) (r : Result (Unit {0}) Denial) (o : Option Denial) → room ≡ 256 → FewTasks ts
-    → r ≡ unless (start_fault false room ts) tt → o ≡ result_err r → o ≡ plan_fault ts
-verdict_is room ts r o e s h f = f ∙ ap result_err (h ∙ ap (λ t. unless (option_or t (plan_fault ts)) tt) (no_early room ts e s)) ∙ back (plan_fault ts)
-  where
-    back : (o : Option Denial) → result_err (unless o (tt {0})) ≡ o
-    back None = refl
-    back (Some d) = refl
 
 -- what the scratch holds
 pub marks_are : (scratch after : List ℕ) (ts : List Task) → length scratch ≡ 256 → FewTasks ts

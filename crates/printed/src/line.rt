@@ -1,10 +1,11 @@
 // One line of the sheet.
-ghost use Rattle.std.specs.Prelude.{◌≡◌, ◌+◌, ◌*◌, ◌^◌, ◌<◌, ◌≤◌, ◌++◌, length, decimal};
-ghost use Rattle.std.specs.List.{flat_map};
-ghost use Rattle.printed.specs.Text.{Put};
-ghost use Rattle.printed.specs.Lines.{column, columns_of, last_column, line_text};
+ghost use Rattle.std.specs.Prelude.{◌≡◌, ◌+◌, ◌≤◌, ◌++◌, length};
+ghost use Rattle.arrayvec.specs.ArrayString.{array_string_len};
+ghost use Rattle.printed.specs.Lines.{Listed, last_column, line_of, line_text};
 
-use crate::text::{put_decimal, put_text};
+use crate::text::{LineText, put_number};
+use bounds::bound;
+use group::Group;
 
 // What the sheet says of a class.
 #[derive(Clone, Copy)]
@@ -17,62 +18,43 @@ pub struct Line {
 }
 
 impl Line {
-    // The columns in their order, but for the bound.
-    fn columns(&self) -> [u16; 4]
-        ensures { result ≡ columns_of self.now }
+    // What a group says of a class that is there.
+    pub(crate) fn of<G: Group>(group: &G, task: u16, class: u8) -> Line
+        requires { Listed (G.tasks group.now) task class }
+        ensures { result ≡ line_of (G.tasks group.now) task class }
     {
-        [
-            self.task,
-            u16::from(self.class),
-            u16::from(self.rank),
-            self.budget,
-        ]
+        let terms = group.terms(task, class);
+        Line {
+            task,
+            class,
+            rank: terms.rank,
+            budget: terms.budget,
+            bound: bound(group, task, class).ok().flatten(),
+        }
+    }
+
+    // The line as text.
+    #[tactic(auto, using(std::proofs::Common::append_assoc), unfolding(crate::specs::Lines::line_text))]
+    pub(crate) fn text(&self) -> LineText
+        ensures { result.bytes ≡ line_text self.now }
+    {
+        let mut line = LineText::new();
+        put_number(&mut line, self.task, ' ');
+        put_number(&mut line, self.class, ' ');
+        put_number(&mut line, self.rank, ' ');
+        put_number(&mut line, self.budget, ' ');
+        put_bound(&mut line, self.bound);
+        line
     }
 }
 
-// Puts a number and one more byte.
-pub(crate) fn put_number(out: &mut [u8], at: usize, n: u16, behind: &[u8]) -> usize
-    requires place { at < 2 ^ 60 }
-    requires one { length behind.now ≡ 1 }
-    ensures put { Put out.old at (decimal n ++ behind.now) out.new result }
-    ensures few { result ≤ at + 6 }
-{
-    let end = put_decimal(out, at, n);
-    put_text(out, end, behind)
-}
-
-// Puts the columns before the last.
-pub(crate) fn put_columns(out: &mut [u8], at: usize, columns: &[u16]) -> usize
-    requires place { at < 2 ^ 59 }
-    requires some { length columns.now ≤ 4 }
-    ensures put { Put out.old at (flat_map column columns.now) out.new result }
-    ensures few { result ≤ at + 24 }
-{
-    let mut end = at;
-    for n in columns {
-        end = put_number(out, end, *n, b" ");
-    }
-    end
-}
-
-// Puts the last column and ends the line.
-fn put_bound(out: &mut [u8], at: usize, bound: Option<u16>) -> usize
-    requires { at < 2 ^ 59 }
-    ensures put { Put out.old at (last_column bound) out.new result }
-    ensures few { result ≤ at + 6 }
+// Appends the last column, which ends the line.
+fn put_bound(line: &mut LineText, bound: Option<u16>)
+    requires { array_string_len line.old + 6 ≤ 26 }
+    ensures { line.new.bytes ≡ line.old.bytes ++ last_column bound }
 {
     match bound {
-        Some(ticks) => put_number(out, at, ticks, b"\n"),
-        None => put_text(out, at, b"-\n"),
+        Some(ticks) => put_number(line, ticks, '\n'),
+        None => line.push_str("-\n"),
     }
-}
-
-// Puts a line, of at most 30 bytes.
-pub(crate) fn put_line(out: &mut [u8], at: usize, line: &Line) -> usize
-    requires { at < 2 ^ 58 }
-    ensures put { Put out.old at (line_text line.now) out.new result }
-    ensures few { result ≤ at + 30 }
-{
-    let end = put_columns(out, at, &line.columns());
-    put_bound(out, end, line.bound)
 }

@@ -1,17 +1,17 @@
 // The sheet of a plate.
-ghost use Rattle.std.specs.Prelude.{◌≡◌, ◌+◌, ◌^◌, ◌<◌, ◌≤◌, ◌++◌, length, IfOk, MatchResult};
+ghost use Rattle.std.specs.Prelude.{◌≡◌, ◌^◌, ◌<◌, ◌≤◌, ◌++◌, length, IfOk, MatchResult};
 ghost use Rattle.denial.specs.Checks.{unless};
 ghost use Rattle.plate.specs.Plans.{Refused, decode};
 ghost use Rattle.plate.specs.Writing.{left};
 ghost use Rattle.plan.specs.Loads.{Loaded};
 ghost use Rattle.admission.specs.Start.{plan_fault, marks};
-ghost use Rattle.printed.specs.Text.{Put};
-ghost use Rattle.printed.specs.Lines.{verdict_line};
+ghost use Rattle.printed.specs.Text.{HasRoom};
 ghost use Rattle.printed.specs.Sheet.{FewTasks, front_of, fault_of, marks_of, sheet_text, sheet_fault};
 ghost use Rattle.printed.specs.Told.{Told};
 
 use crate::tasks::put_group;
-use crate::verdict::put_verdict;
+use crate::text::Text;
+use crate::verdict::verdict;
 use denial::{Denial, Rule};
 use dispatcher::Dispatcher;
 use group::{Group, Join};
@@ -31,56 +31,48 @@ fn loaded(plate: &[u8]) -> Result<Plan, Denial>
     Ok(Join { first, second })
 }
 
-// Why a group of work cannot be started; the scratch is lent to the start.
-fn start_fault<G: Group + Drop>(group: G, scratch: &mut [u8; 256]) -> Option<Denial>
+// Starts a group of work, if it may be started; the scratch is lent to the start.
+fn start<G: Group + Drop>(group: G, scratch: &mut [u8; 256]) -> Result<(), Denial>
     requires { FewTasks (G.tasks group) }
-    ensures fault { result ≡ plan_fault (G.tasks group) }
+    ensures result { result ≡ unless (plan_fault (G.tasks group)) tt }
     ensures scratch { scratch.new ≡ marks (G.tasks group) }
 {
-    Dispatcher::new(group).start(scratch).err()
+    Dispatcher::new(group).start(scratch)
 }
 
-// Why a plate is refused, or why its tasks cannot be started.
-fn verdict_of(plate: &[u8], scratch: &mut [u8; 256]) -> Option<Denial>
-    ensures fault { result ≡ fault_of (decode plate.now) }
+// Appends what stands above the verdict, and gives the verdict: whether the plate has tasks that may be started.
+fn put_front(text: &mut Text, plate: &[u8], scratch: &mut [u8; 256]) -> Result<(), Denial>
+    requires { HasRoom text.old.bytes (front_of (decode plate.now)) }
+    ensures result { result ≡ unless (fault_of (decode plate.now)) tt }
+    ensures text { text.new.bytes ≡ text.old.bytes ++ front_of (decode plate.now) }
     ensures scratch { scratch.new ≡ marks_of (decode plate.now) scratch.old }
 {
-    match loaded(plate) {
-        Ok(plan) => start_fault(plan, scratch),
-        Err(denial) => Some(denial),
-    }
+    let plan = loaded(plate)?;
+    put_group(text, &plan);
+    start(plan, scratch)
 }
 
-// Puts what stands above the verdict.
-fn put_front(out: &mut [u8], plate: &[u8]) -> usize
-    ensures put { Put out.old 0 (front_of (decode plate.now)) out.new result }
-    ensures few { result ≤ 15389 }
+// The sheet as text.
+fn sheet_of(plate: &[u8], scratch: &mut [u8; 256]) -> Text
+    ensures text { result.bytes ≡ sheet_text plate.now }
+    ensures scratch { scratch.new ≡ marks_of (decode plate.now) scratch.old }
+    ensures told { Told plate.now }
 {
-    match loaded(plate) {
-        Ok(plan) => put_group(out, &plan),
-        Err(_) => 0,
-    }
+    let mut text = Text::new();
+    let started = put_front(&mut text, plate, scratch);
+    text.push_str(verdict(started).as_str());
+    text
 }
 
-// Puts the sheet with a verdict.
-fn put_sheet(out: &mut [u8], plate: &[u8], fault: Option<Denial>) -> usize
-    ensures put { Put out.old 0 (front_of (decode plate.now) ++ verdict_line fault) out.new result }
-    ensures few { result ≤ length (front_of (decode plate.now)) + 38 }
-    ensures fits { result < 2 ^ 16 }
-{
-    let end = put_front(out, plate);
-    put_verdict(out, end, fault)
-}
-
-// The refusal of a buffer that is too short.
-fn room_fault(needed: usize, room: usize) -> Option<Denial>
+// Refuses a buffer that is too short.
+fn check_room(needed: usize, room: usize) -> Result<(), Denial>
     requires { needed < 2 ^ 16 }
-    ensures { result ≡ sheet_fault needed room }
+    ensures { result ≡ unless (sheet_fault needed room) tt }
 {
     if room < needed {
-        return Some(Rule::Room.denies(needed as u16, 0));
+        return Err(Rule::Room.denies(needed as u16, 0));
     }
-    None
+    Ok(())
 }
 
 // Prints the sheet of a plate into the caller's bytes: how many bytes it has, or 8 with the bytes needed, and then all bytes stay.
@@ -93,11 +85,9 @@ pub fn print_sheet(plate: &[u8], scratch: &mut [u8; 256], out: &mut [u8]) -> Res
     ensures short { length (sheet_text plate.now) ≤ 4830 }
     ensures told { Told plate.now }
 {
-    let fault = verdict_of(plate, scratch);
-    let needed = put_sheet(&mut [], plate, fault);
-    if let Some(denial) = room_fault(needed, out.len()) {
-        return Err(denial);
-    }
-    put_sheet(out, plate, fault);
+    let text = sheet_of(plate, scratch);
+    let needed = text.len();
+    check_room(needed, out.len())?;
+    out[..needed].copy_from_slice(text.as_str().as_bytes());
     Ok(needed)
 }

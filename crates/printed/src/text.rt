@@ -1,45 +1,25 @@
-// Text in the caller's bytes: each call puts its text from a place on, if there is room, and answers the place behind it.
-// Over no bytes at all, the same calls say how long a text is.
-ghost use Rattle.std.specs.Prelude.{◌≡◌, ◌+◌, ◌%◌, ◌^◌, ◌<◌, ◌≤◌, [], ◌∷◌, decimal};
-ghost use Rattle.printed.specs.Text.{Put};
+// Text in place, made by pushes that cannot fail, since the room that they need is known before.
+// `impl Display` and `write!` would be plainer. Tried: into an `ArrayString`, into a writer of our own without any error, and by
+// `fmt::InlineText`; the proof didn't close, since by its clauses a `write!` may fail at any time, and `print_sheet` may not.
+ghost use Rattle.std.specs.Prelude.{◌≡◌, ◌+◌, ◌<◌, ◌≤◌, [], ◌∷◌, ◌++◌};
+ghost use Rattle.arrayvec.specs.ArrayString.{array_string_len};
 
-// The place behind a text of so many bytes.
-fn end_of(at: usize, len: usize) -> usize
-    requires { at + len + 1 < 2 ^ 64 }
-    ensures { result ≡ at + len }
-{
-    len + at
-}
+use arrayvec::ArrayString;
+use itoa::{Buffer, Integer};
 
-// Puts a text.
-pub(crate) fn put_text(out: &mut [u8], at: usize, text: &[u8]) -> usize
-    requires { at < 2 ^ 62 }
-    ensures { Put out.old at text.now out.new result }
-{
-    let end = end_of(at, text.len());
-    if out.len() < end {
-        return end;
-    }
-    out[at..end].copy_from_slice(text);
-    end
-}
+// A whole sheet.
+pub(crate) type Text = ArrayString<4830>;
 
-// The last digit of a number.
-fn last_digit(n: u16) -> [u8; 1]
-    ensures { result ≡ (48 + n % 10) ∷ [] }
-{
-    [(48 + n % 10) as u8]
-}
+// A line with the newline at its end.
+pub(crate) type LineText = ArrayString<26>;
 
-// Puts a number in decimal digits, of which it has at most five.
-pub(crate) fn put_decimal(out: &mut [u8], at: usize, n: u16) -> usize
-    requires { at < 2 ^ 61 }
-    ensures put { Put out.old at (decimal n) out.new result }
-    ensures few { result ≤ at + 5 }
+// Appends a number and one more character.
+pub(crate) fn put_number<I: Integer>(line: &mut LineText, n: I, behind: char)
+    requires ascii { behind < 128 }
+    requires room { array_string_len line.old + I.MAX_STR_LEN + 1 ≤ 26 }
+    ensures bytes { line.new.bytes ≡ line.old.bytes ++ (I.text n ++ behind ∷ []) }
+    ensures len { array_string_len line.new ≤ array_string_len line.old + I.MAX_STR_LEN + 1 }
 {
-    if n < 10 {
-        return put_text(out, at, &last_digit(n));
-    }
-    let last = put_decimal(out, at, n / 10);
-    put_text(out, last, &last_digit(n))
+    line.push_str(Buffer::new().format(n));
+    line.push(behind);
 }

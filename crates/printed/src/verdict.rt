@@ -1,39 +1,39 @@
 // The last line of the sheet: what the start says of the plan.
-ghost use Rattle.std.specs.Prelude.{◌≡◌, ◌+◌, ◌^◌, ◌<◌, ◌≤◌, [], ◌∷◌, ◌++◌, codes};
-ghost use Rattle.denial.specs.Numbers.{number_of, report};
-ghost use Rattle.printed.specs.Text.{Put};
+ghost use Rattle.std.specs.Prelude.{◌≡◌, ◌++◌, codes};
+ghost use Rattle.std.specs.Result.{result_err};
+ghost use Rattle.denial.specs.Numbers.{report};
 ghost use Rattle.printed.specs.Lines.{verdict_line};
 
-use crate::line::{put_columns, put_number};
-use crate::text::put_text;
+use crate::text::{LineText, put_number};
 use denial::Denial;
 
-// The number of a denial, and its first detail.
-fn number_and_first(denial: &Denial) -> [u16; 2]
-    ensures { result ≡ number_of denial.now.rule ∷ (denial.now.first ∷ []) }
+// The line of a plan that may be started.
+fn accepted() -> LineText
+    ensures { result.bytes ≡ codes "accepted\n" }
 {
-    [denial.number(), denial.first]
+    let mut line = LineText::new();
+    line.push_str("accepted\n");
+    line
 }
 
-// Puts a denial and ends the line.
-fn put_report(out: &mut [u8], at: usize, denial: &Denial) -> usize
-    requires { at < 2 ^ 58 }
-    ensures put { Put out.old at (report denial.now ++ codes "\n") out.new result }
-    ensures few { result ≤ at + 38 }
+// What a denial prints, as a line.
+fn report(denial: &Denial) -> LineText
+    ensures { result.bytes ≡ report denial.now ++ codes "\n" }
 {
-    let word = put_text(out, at, b"refused ");
-    let end = put_columns(out, word, &number_and_first(denial));
-    put_number(out, end, denial.second, b"\n")
+    let mut line = LineText::new();
+    line.push_str("refused ");
+    put_number(&mut line, denial.number(), ' ');
+    put_number(&mut line, denial.first, ' ');
+    put_number(&mut line, denial.second, '\n');
+    line
 }
 
-// Puts the verdict.
-pub(crate) fn put_verdict(out: &mut [u8], at: usize, fault: Option<Denial>) -> usize
-    requires { at < 2 ^ 58 }
-    ensures put { Put out.old at (verdict_line fault) out.new result }
-    ensures few { result ≤ at + 38 }
+// The verdict as a line.
+pub(crate) fn verdict(started: Result<(), Denial>) -> LineText
+    ensures { result.bytes ≡ verdict_line (result_err started) }
 {
-    match fault {
-        None => put_text(out, at, b"accepted\n"),
-        Some(denial) => put_report(out, at, &denial),
+    match started {
+        Ok(()) => accepted(),
+        Err(denial) => report(&denial),
     }
 }
