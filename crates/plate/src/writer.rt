@@ -11,7 +11,7 @@ use super::frame::Frame;
 use super::reading::check_counts;
 use super::rules::{check_frames, check_miss_counted};
 use arrayvec::ArrayVec;
-use denial::{Denial, Rule};
+use denial::{Denial, check_room};
 
 // The fixed bytes of a header and of the two kinds of row differ in their layout, so each has a function; `write_row` puts any of
 // them in.
@@ -93,9 +93,7 @@ fn end_within(len: usize, at: usize, size: usize) -> Result<usize, Denial>
     ensures { result ≡ unless (room_fault len at size) (at + size) }
 {
     let end = at.saturating_add(size);
-    if len < end {
-        return Err(Rule::Room.denies(end.min(65535) as u16, 0));
-    }
+    check_room(end, len)?;
     Ok(end)
 }
 

@@ -12,7 +12,7 @@ ghost use Rattle.printed.specs.Told.{Told};
 use crate::tasks::put_group;
 use crate::text::Text;
 use crate::verdict::verdict;
-use denial::{Denial, Rule};
+use denial::{Denial, check_room};
 use dispatcher::Dispatcher;
 use group::{Group, Join};
 use kinds::{FrameTable, MissCountedTable};
@@ -62,17 +62,6 @@ fn sheet_of(plate: &[u8], scratch: &mut [u8; 256]) -> Text
     let started = put_front(&mut text, plate, scratch);
     text.push_str(verdict(started).as_str());
     text
-}
-
-// Refuses a buffer that is too short.
-fn check_room(needed: usize, room: usize) -> Result<(), Denial>
-    requires { needed < 2 ^ 16 }
-    ensures { result ≡ unless (sheet_fault needed room) tt }
-{
-    if room < needed {
-        return Err(Rule::Room.denies(needed as u16, 0));
-    }
-    Ok(())
 }
 
 // Prints the sheet of a plate into the caller's bytes: how many bytes it has, or 8 with the bytes needed, and then all bytes stay.
