@@ -4,6 +4,7 @@
 ghost use Rattle.std.specs.Prelude.{◌≡◌, ◌≤◌, Some};
 ghost use Rattle.denial.specs.Numbers.{number_of, layer_of, denied, Alone, report};
 
+use std::error::Error;
 use std::fmt;
 
 // One case for each rule, in the order of their numbers. docs/RULES.md says what each means.
@@ -146,3 +147,5 @@ impl fmt::Display for Denial {
         write!(f, "refused {number} {first} {second}")
     }
 }
+
+impl Error for Denial {}

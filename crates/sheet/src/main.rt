@@ -1,7 +1,6 @@
 // Prints the sheet of the plate on standard input: a line for each class with its bound, and whether the plan may start.
 #![tactic(auto)]
 
-use anyhow::anyhow;
 use printed::print_sheet;
 use std::io::{Read, Write};
 
@@ -10,10 +9,8 @@ fn run(rt: &HostRuntime) -> anyhow::Result<()> {
     rt.stdin().read_to_end(&mut plate)?;
     let mut scratch = [0; 256];
     let mut text = [0; 4830];
-    match print_sheet(plate.as_slice(), &mut scratch, &mut text) {
-        Ok(n) => rt.stdout().write_all(&text[0..n])?,
-        Err(denial) => return Err(anyhow!(format!(in rt.alloc(); "{denial}")?)),
-    }
+    let n = print_sheet(plate.as_slice(), &mut scratch, &mut text)?;
+    rt.stdout().write_all(&text[..n])?;
     Ok(())
 }
 
