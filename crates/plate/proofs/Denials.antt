@@ -55,3 +55,5 @@ header_whole bs long h l =
 -- the header ends where the rest begins
 pub header_ends : (bs : List ℕ) → 2 ≤ length bs → 8 * (length bs - length (take (length bs - 2) (drop 2 bs))) ≡ 16
 header_ends bs h = rw (take_rest bs 2) (omega (arith, length-drop 2 bs))
+
+pub ruleset header_laws = (header_whole, header_counts)

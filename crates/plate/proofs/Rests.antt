@@ -116,3 +116,6 @@ pub reads_more : (bs : List ℕ) (s t : State) (h : Handed) → 0 < s.place
     → Ok (Some h) ≡ unless (next_denial bs s) (next_row bs (opened bs s)) → t ≡ after_row bs (opened bs s)
     → (fault_of (rest_of bs s) ≡ fault_of (rest_of bs t)) × (0 < t.place)
 reads_more bs s t h l e w = took_fault bs s t h (reads_row bs s t h l e w)
+
+-- what a step of a reader says of the rows to come
+pub ruleset reads = (reads_err, reads_end, reads_more)

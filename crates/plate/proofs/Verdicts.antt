@@ -78,3 +78,6 @@ pub opened_rest : (bs bs₀ bs₁ : List ℕ) (s₀ s₁ : State) → bs₀ ≡ 
 opened_rest bs bs₀ bs₁ s₀ s₁ e g f h =
     let first : s₁ ≡ first_state bs = h ∙ ap (opened bs₀) f ∙ ap first_state e in
     (rw first (omega arith), ap (λ x. rest_of x s₁) (g ∙ e) ∙ ap (rest_of bs) first)
+
+-- what a plate that was opened, and then read to its end or its first fault, is
+pub ruleset verdicts = (opened_ok, opened_err, opened_rest, header_refused, rows_refused, rows_accepted, written_is_read)

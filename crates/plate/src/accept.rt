@@ -8,6 +8,7 @@ use super::reader::{Counts, Reader};
 use denial::Denial;
 
 // Reads all the rows to come.
+#[tactic(auto, using(crate::proofs::Rests::reads))]
 fn read_on(reader: &mut Reader) -> Result<(), Denial>
     requires { 0 < (state reader.old).place }
     ensures { fault_of result ≡ fault_of (rest_of (plate_of reader.old) (state reader.old)) }
@@ -18,6 +19,7 @@ fn read_on(reader: &mut Reader) -> Result<(), Denial>
 
 // Reads the whole plate: the numbers of its rows, or its first fault. A plate is accepted exactly if it is the encoding of
 // a sound plan.
+#[tactic(auto, using(crate::proofs::Verdicts::verdicts))]
 pub fn accept(plate: &[u8]) -> Result<Counts, Denial>
     ensures verdict { MatchResult result (λ n. Accepted plate.now n.counted n.framed) (λ d. Refused plate.now d) }
     ensures trips { WrittenIsRead }

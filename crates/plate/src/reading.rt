@@ -28,7 +28,7 @@ pub(crate) fn check_counts(counted: u8, framed: u8) -> Result<(), Denial>
 }
 
 // The header: edition 4 bits, number of miss-counted rows 6, number of frame rows 6. The rest is rows.
-#[tactic(auto, using(crate::proofs::Denials::header_whole, crate::proofs::Denials::header_counts), unfolding(crate::specs::Plans::header_denial))]
+#[tactic(auto, using(crate::proofs::Denials::header_laws), unfolding(crate::specs::Plans::header_denial))]
 fn header(plate: &[u8]) -> Result<Position<'_>, Denial>
     ensures { MatchResult result
         (λ at. (header_denial plate.now ≡ None) × (plate_at at ≡ plate.now) × (state_at at ≡ first_state plate.now))

@@ -124,7 +124,8 @@ impl FramedHead {
     }
 }
 
-// The frames of a row, from their bytes, keep its rules.
+// The frames of a row, from their bytes, keep its rules. They are in front of the eight that `unpack` makes for callers outside too:
+// an ArrayVec would want a second function that unpacks.
 #[tactic(auto, using(crate::proofs::Frames::frames_length, crate::proofs::Frames::padded_few))]
 fn check_unpacked(start: RowStart, gap: u16, bytes: &[u8]) -> Result<(), Denial>
     requires { length bytes.now ≤ 24 }

@@ -6,9 +6,9 @@ use Rattle.plate.specs.Readers.{state, plate_of}
 use Rattle.plate.proofs.Steps.{sound_next}
 use Rattle.plate.proofs.reader.Reader.next_row.Goals as goal
 
-pub returns : goal.returns
-returns c =
+pub returns-clause-sound : goal.returns-clause-sound
+returns-clause-sound c =
     let bs = plate_of c.args.self.now in
     let s = state c.args.self.now in
     let e : Ok (option_map handed c.in_ok-row.row) ≡ unless (next_denial bs s) (next_row bs (opened bs s)) = search rules in
-    record { plate = search rules; result = e; after = search rules; sound = sound_next bs s _ e }
+    sound_next bs s _ e
