@@ -1,3 +1,1 @@
-pub mod Attained
-pub mod Counting
 pub mod Listed
