@@ -1,4 +1,2 @@
-pub mod Attained
-pub mod Counting
 pub mod Listed
 mod Refused

@@ -3,6 +3,7 @@ pub mod MissCounted
 pub mod Frames
 pub mod Rows
 pub mod Tables
+pub mod Held
 pub mod Listed
 pub mod Demands
 pub mod Promises
@@ -11,8 +12,9 @@ pub mod CycleLemmas
 pub mod FramedLaws
 pub mod Props
 pub mod TablesLemmas
-pub mod Stores
 pub mod CountedRows
+pub mod Counting
+pub mod Attained
 pub mod Most
 pub mod Ranks
 pub mod CountedLaws

@@ -1,52 +1,58 @@
 -- What the two tables hold: their rows as a plate tells them, the tasks that these mean, and the present positions. Assumes nothing.
-use Rattle.std.specs.Prelude.{ℕ, List, map, take}
+use Rattle.std.specs.Prelude.{ℕ, List}
 use Rattle.group.specs.Task.{Task}
 use Rattle.plate.specs.Rows.{Counted, Framed}
-use Rattle.kinds.specs.declared.counted_table.MissCountedTable.{MissCountedTable}
-use Rattle.kinds.specs.declared.frame_table.FrameTable.{FrameTable}
+use Rattle.kinds.specs.declared.table.Table.{Table}
 use Rattle.kinds.specs.declared.rows.MissCountedRow.{MissCountedRow}
 use Rattle.kinds.specs.declared.rows.FrameRow.{FrameRow}
-use Rattle.kinds.specs.MissCounted.{counted_task}
-use Rattle.kinds.specs.Frames.{framed_task}
-use Rattle.kinds.specs.Rows.{GoodCounted, counted_classes, counted_of, GoodFramed, framed_classes, framed_of}
-use Rattle.kinds.specs.Tables.{listed, RowAt, Grown}
+use Rattle.kinds.specs.CountedRows.{counted_kind}
+use Rattle.kinds.specs.FramedRows.{framed_kind}
+use Rattle.kinds.specs.Held.{rows_of, tasks_of, places_of, Held, Added}
+
+-- the table of miss-counted rows; their number stands on a plate from bit 4 on
+abbrev pub MissCountedTable : Type 0
+MissCountedTable = Table MissCountedRow (record { kind = counted_kind; NUMBER_AT = 4 })
+
+-- the table of frame rows; their number stands on a plate from bit 10 on
+abbrev pub FrameTable : Type 0
+FrameTable = Table FrameRow (record { kind = framed_kind; NUMBER_AT = 10 })
 
 -- the rows of a miss-counted table
 abbrev pub counted_rows : MissCountedTable → List Counted
-counted_rows t = listed counted_of t.rows t.len
+counted_rows = rows_of
 
 -- the tasks that they mean
 abbrev pub counted_tasks : MissCountedTable → List Task
-counted_tasks t = map counted_task (counted_rows t)
+counted_tasks = tasks_of
 
 -- their present positions
 abbrev pub counted_places : MissCountedTable → List ℕ
-counted_places t = take t.len t.places
+counted_places = places_of
 
 -- row i of a table
 abbrev pub CountedRow : MissCountedTable → ℕ → MissCountedRow → Type 0
-CountedRow t = RowAt GoodCounted counted_classes counted_of counted_task (counted_rows t)
+CountedRow = Held
 
 -- the table with one row more
 abbrev pub CountedAdded : MissCountedTable → MissCountedRow → MissCountedTable → Type 0
-CountedAdded t r t' = Grown counted_task (counted_of r) (counted_rows t) (counted_rows t') (counted_places t) (counted_places t')
+CountedAdded = Added
 
 -- the rows of a frame table
 abbrev pub framed_rows : FrameTable → List Framed
-framed_rows t = listed framed_of t.rows t.len
+framed_rows = rows_of
 
 -- the tasks that they mean
 abbrev pub framed_tasks : FrameTable → List Task
-framed_tasks t = map framed_task (framed_rows t)
+framed_tasks = tasks_of
 
 -- their present positions
 abbrev pub framed_places : FrameTable → List ℕ
-framed_places t = take t.len t.places
+framed_places = places_of
 
 -- row i of a table
 abbrev pub FramedRow : FrameTable → ℕ → FrameRow → Type 0
-FramedRow t = RowAt GoodFramed framed_classes framed_of framed_task (framed_rows t)
+FramedRow = Held
 
 -- the table with one row more
 abbrev pub FramedAdded : FrameTable → FrameRow → FrameTable → Type 0
-FramedAdded t r t' = Grown framed_task (framed_of r) (framed_rows t) (framed_rows t') (framed_places t) (framed_places t')
+FramedAdded = Added

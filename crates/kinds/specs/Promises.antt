@@ -4,11 +4,9 @@ use Rattle.std.specs.List.{AllByRecursion}
 use Rattle.group.specs.Task.{Attained, at}
 use Rattle.plate.specs.Rows.{Counted, Framed}
 use Rattle.plate.specs.Plans.{SoundCounted, SoundFramed}
-use Rattle.kinds.specs.declared.counted_table.MissCountedTable.{MissCountedTable}
-use Rattle.kinds.specs.declared.frame_table.FrameTable.{FrameTable}
 use Rattle.kinds.specs.MissCounted.{counted_task, IsMissCounted}
 use Rattle.kinds.specs.Frames.{framed_task}
-use Rattle.kinds.specs.Listed.{counted_rows, counted_tasks, framed_rows}
+use Rattle.kinds.specs.Listed.{MissCountedTable, FrameTable, counted_rows, counted_tasks, framed_rows}
 
 -- no smaller demand of a miss-counted row would cover: for each number of jobs and each rank some succession asks for all of it
 abbrev pub CountedAttained : Type 0

@@ -1,175 +1,148 @@
--- A table of rows of one kind, as a list of rows, of tasks and of positions.
-use Rattle.std.specs.Prelude.{◌≡◌, ℕ, ◌+◌, ◌<◌, ◌≤◌, cond, ◌≢◌, ◌⊎◌, List, [], ◌∷◌, ◌++◌, map, length, take, set, IfSome, Some, None, Option, MatchOption, nat_lt, slice_index, slice_index_or, slice_set, refl}
-use Rattle.std.proofs.Common.{sym, ap, subst, ◌∙◌, inl, inr, arith, length-take}
-use Rattle.std.proofs.Math.Logic.{∥∥₁_elim}
+-- A table of rows of one kind, as lists of rows, of tasks and of positions.
+use Rattle.std.specs.Prelude.{◌≡◌, ℕ, zero, suc, ◌<◌, ◌≤◌, min, ◌⊎◌, List, [], ◌∷◌, ◌++◌, map, length, None, Option, Some, MatchOption, slice_index_or, slice_set}
+use Rattle.std.proofs.Common.{sym, ap, subst, ◌∙◌, inl, inr, not-suc-le-zero, arith}
 use Rattle.std.specs.Borrow.{Bor}
 use Rattle.std.specs.List.{AllByRecursion}
-use Rattle.std.proofs.ByRecursion.{All-from_get_or}
-use Rattle.std.proofs.lemmas.List.{get_or-map, get_or-take, get_or_past, set_past, length-map, get_or-set_same, get_or-set_other, take_more_set, map_push}
-use Rattle.std.proofs.lemmas.Bool.{cases_lt, cond_below, cond_above, le-ltb}
+use Rattle.std.proofs.lemmas.List.{get_or-map, get_or_past, length-map, map-set, map_push}
+use Rattle.std.proofs.Math.Seq.{map-set_same}
+use Rattle.std.proofs.lemmas.Bool.{cases_lt, le-ltb}
 use Rattle.denial.specs.declared.Denial.{Denial}
 use Rattle.group.specs.declared.meaning.Outcome.{Outcome}
-use Rattle.group.specs.Task.{Task, Position, Lawful, at, place, no_task, after, settled}
-use Rattle.group.specs.Lists.{take-set}
-use Rattle.kinds.specs.Tables.{listed, Fits, Keeps, Placed, RowAt, NoRowAt, add_fault, Grown}
+use Rattle.group.specs.Task.{Task, Class, Position, Lawful, Attained, at, place, no_task, after, settled}
+use Rattle.kinds.specs.declared.entry.Entry.{Entry}
+use Rattle.kinds.specs.declared.table.Table.{Table}
+use Rattle.kinds.specs.declared.table_row.TableRow.{Ghosts}
+use Rattle.kinds.specs.Demands.{Asked}
+use Rattle.kinds.specs.Tables.{add_fault}
+use Rattle.kinds.specs.Held.{meant, rows_of, tasks_of, places_of, HeldEntry, Absent, Added}
 
-same_or_below : (i n : ℕ) → i < n + 1 → (i ≡ n) ⊎ (i < n)
-same_or_below i n h = grind arith
+module _ {R : Type 0} {g : Ghosts R} where
+  -- what holds of each entry holds of each task and its position
+  pub each : (P : Task → ℕ → Type 0) → ((e : Entry R g) → P (meant g e.row) e.place) → (es : List (Entry R g)) (i : ℕ) →
+      i < length (map g.kind.task (map (λ e. g.kind.says e.row) es)) →
+      P (at (map g.kind.task (map (λ e. g.kind.says e.row) es)) i) (place (map (λ e. e.place) es) i)
+  each P h [] i l = absurd (not-suc-le-zero l)
+  each P h (e ∷ es) zero l = h e
+  each P h (e ∷ es) (suc i) l = each P h es i (omega arith)
 
--- what a kind of row owes its table
-pub record Kind {R X : Type 0} (good : R → Type 0) (classes : R → ℕ) (says : R → X) (task : X → Task) : Type 0 where
-  pub one : (r : R) → IsProp (good r)
-  pub some : (r : R) → good r → 1 ≤ classes r
-  pub counted : (r : R) → good r → length (task (says r)).classes ≡ classes r
-  pub placed : (r : R) → good r → (x : ℕ) → 1 ≤ x → x ≤ classes r → Position (task (says r)) x
-  pub lawful : (r : R) → good r → Lawful (task (says r))
+  -- every row that is held keeps the rules of its kind
+  pub all_sound : (es : List (Entry R g)) → AllByRecursion g.kind.Sound (map (λ e. g.kind.says e.row) es)
+  all_sound [] = tt
+  all_sound (e ∷ es) = (g.kind.sound e.row e.keeps, all_sound es)
 
--- what a table stores
-pub record Stored {R : Type 0} (good : R → Type 0) (classes : R → ℕ) (none : R) : Type 0 where
-  pub rows : List R
-  pub places : List ℕ
-  pub len : ℕ
-  pub fits : Fits rows places len
-  pub keeps : Keeps good none rows len
-  pub placed : Placed classes none rows places len
+  -- an entry is at a position of its task, and so is it after a job: at one of its classes
+  pub standing : (e : Entry R g) → Position (meant g e.row) e.place
+  standing e = g.kind.placed e.row e.keeps e.place e.low e.high
 
-module _ {R X : Type 0} {good : R → Type 0} {classes : R → ℕ} {says : R → X} {task : X → Task} {d : R} (k : Kind good classes says task) (s : Stored good classes d) where
-  abbrev rows : List R
-  rows = s.rows
+  pub moved : (e : Entry R g) (o : Outcome) (x : ℕ) → x ≡ after (meant g e.row) o e.place → (1 ≤ x) × (x ≤ g.kind.classes e.row)
+  moved e o x h =
+      let law = g.kind.lawful e.row e.keeps in
+      let y = after (meant g e.row) o e.place in
+      let class : Class (meant g e.row) ((meant g e.row).class_at y) = law.classed y (law.moves e.place o (standing e)) in
+      let here : Class (meant g e.row) y = subst (Class (meant g e.row)) (g.kind.classed (g.kind.says e.row) y) class in
+      (omega arith, omega (arith, here.1, g.kind.counted e.row e.keeps))
 
-  abbrev places : List ℕ
-  places = s.places
+  module _ (t : Table R g) where
+    pub rows_length : length (rows_of t) ≡ length t.entries.items
+    rows_length = length-map t.entries.items (λ e. g.kind.says e.row)
 
-  abbrev len : ℕ
-  len = s.len
+    pub tasks_length : length (tasks_of t) ≡ length t.entries.items
+    tasks_length = length-map (rows_of t) g.kind.task ∙ rows_length
 
-  abbrev told : List X
-  told = listed says rows len
+    places_length : length (places_of t) ≡ length t.entries.items
+    places_length = length-map t.entries.items (λ e. e.place)
 
-  abbrev tasks : List Task
-  tasks = map task told
+    pub few_rows : length (rows_of t) ≤ 16
+    few_rows = omega (arith, rows_length, t.few)
 
-  pub good_at : (i : ℕ) → i < len → good (slice_index_or rows i d)
-  good_at i l = ∥∥₁_elim (s.keeps i l) (k.one (slice_index_or rows i d)) (λ h. h)
+    -- The laws of a group.
+    pub few : length (tasks_of t) ≤ 65535
+    few = omega (arith, tasks_length, t.few)
 
-  pub rows_length : length told ≡ len
-  rows_length = length-map (take len rows) says ∙ (length-take len rows ∙ (let w = s.fits.1 in omega arith))
+    pub same_length : length (places_of t) ≡ length (tasks_of t)
+    same_length = places_length ∙ sym tasks_length
 
-  pub tasks_length : length tasks ≡ len
-  tasks_length = length-map told task ∙ rows_length
+    pub positioned : (i : ℕ) → i < length (tasks_of t) → Position (at (tasks_of t) i) (place (places_of t) i)
+    positioned = each Position standing t.entries.items
 
-  row_here : (i : ℕ) (e : X) → i < len → slice_index_or told i e ≡ says (slice_index_or rows i d)
-  row_here i e l = get_or-map says (take len rows) i d e (omega (arith, length-take len rows, s.fits.1)) ∙ ap says (get_or-take len rows i d l)
+    pub lawfuls : (i : ℕ) → i < length (tasks_of t) → Lawful (at (tasks_of t) i)
+    lawfuls = each (λ t _. Lawful t) (λ e. g.kind.lawful e.row e.keeps) t.entries.items
 
-  task_here : (i : ℕ) → i < len → at tasks i ≡ task (says (slice_index_or rows i d))
-  task_here i l = get_or-map task told i (says d) no_task (omega (arith, rows_length)) ∙ ap task (row_here i (says d) l)
+    -- some succession asks for all of the demand
+    pub attaineds : (i : ℕ) → i < length (tasks_of t) → Attained (at (tasks_of t) i)
+    attaineds = each (λ t _. Attained t) (λ e. g.kind.attained e.row e.keeps) t.entries.items
 
-  task_absent : (i : ℕ) → len ≤ i → at tasks i ≡ no_task
-  task_absent i h = get_or_past tasks i no_task (omega (arith, tasks_length))
+    -- the entry that stands at place i
+    module _ (i : ℕ) (e : Entry R g) (l : i < length t.entries.items) (s : e ≡ slice_index_or t.entries.items i e) where
+      row_here : (d : g.kind.Said) → slice_index_or (rows_of t) i d ≡ g.kind.says e.row
+      row_here d = get_or-map (λ e. g.kind.says e.row) t.entries.items i e d l ∙ ap (λ e. g.kind.says e.row) (sym s)
 
-  found : (i : ℕ) → i < len → RowAt good classes says task told i (slice_index_or rows i d)
-  found i l = record {
-    here = omega (arith, rows_length);
-    stands = λ e. row_here i e l;
-    keeps = good_at i l;
-    means = task_here i l;
-    count = ap (λ t. length t.classes) (task_here i l) ∙ k.counted (slice_index_or rows i d) (good_at i l);
-  }
+      task_here : at (tasks_of t) i ≡ meant g e.row
+      task_here =
+          get_or-map g.kind.task (rows_of t) i (g.kind.says e.row) no_task (omega (arith, rows_length)) ∙ ap g.kind.task (row_here (g.kind.says e.row))
 
-  missing : (i : ℕ) → len ≤ i → NoRowAt task told i
-  missing i h = record { past = omega (arith, rows_length); none = omega (arith, tasks_length); means = task_absent i h }
+      place_here : place (places_of t) i ≡ e.place
+      place_here = get_or-map (λ e. e.place) t.entries.items i e 0 l ∙ ap (λ e. e.place) (sym s)
 
-  -- what stands in the array is a row of the list
-  pub looked_up : (i : ℕ) (o : Option (Bor R)) → MatchOption o (len ≤ i) (λ q. (i < len) × (q.now ≡ slice_index_or rows i d)) →
-      MatchOption o (NoRowAt task told i) (λ q. RowAt good classes says task told i q.now)
-  looked_up i None h = missing i h
-  looked_up i (Some q) h = subst (RowAt good classes says task told i) (sym h.1) (found i h.0)
+      pub held : HeldEntry t i e
+      held = (
+        record {
+          here = omega (arith, rows_length);
+          stands = row_here;
+          keeps = e.keeps;
+          means = task_here;
+          count = ap (λ t. length t.classes) task_here ∙ g.kind.counted e.row e.keeps;
+        },
+        place_here,
+      )
 
-  -- what holds of each good row and the task that it means holds of a row that stands in the array
-  pub looked_at : (P : R → Task → Type 0) → ((r : R) → good r → P r (task (says r))) → (i : ℕ) (o : Option (Bor R)) →
-      MatchOption o (len ≤ i) (λ q. (i < len) × (q.now ≡ slice_index_or rows i d)) → IfSome o (λ q. P q.now (at tasks i))
-  looked_at P h i None e = tt
-  looked_at P h i (Some q) e =
-      subst (λ r. P r (at tasks i)) (sym e.1) (rw (task_here i e.0) (h (slice_index_or rows i d) (good_at i e.0)))
+      -- another entry f stands there in its place: of the same row, or at the place after a job
+      pub row_stays : (f : Entry R g) → f.row ≡ e.row → map (λ e. g.kind.says e.row) (slice_set t.entries.items i f) ≡ rows_of t
+      row_stays f r = map-set_same (λ e. g.kind.says e.row) t.entries.items i f e (ap g.kind.says r ∙ ap (λ e. g.kind.says e.row) s)
 
-  -- what holds of what each good row says holds of each listed row
-  pub all_told : (P : X → Type 0) → ((r : R) → good r → P (says r)) → AllByRecursion P told
-  all_told P h =
-      All-from_get_or P told (says d) (λ i l. let m : i < len = omega (arith, rows_length) in rw (row_here i (says d) m) (h (slice_index_or rows i d) (good_at i m)))
+      pub place_moves : (f : Entry R g) (o : Outcome) → f.place ≡ after (meant g e.row) o e.place →
+          map (λ e. e.place) (slice_set t.entries.items i f) ≡ settled (tasks_of t) (places_of t) i o
+      place_moves f o p =
+          map-set (λ e. e.place) t.entries.items i f
+          ∙ ap (slice_set (places_of t) i) (p ∙ sym (ap (λ x. after x o (place (places_of t) i)) task_here ∙ ap (after (meant g e.row) o) place_here))
 
-  -- and of its task
-  pub each_task : (P : Task → Type 0) → ((r : R) → good r → P (task (says r))) → (i : ℕ) → i < length tasks → P (at tasks i)
-  each_task P h i l = let m : i < len = omega (arith, tasks_length) in rw (task_here i m) (h (slice_index_or rows i d) (good_at i m))
-
-  -- The laws of a group.
-  pub few : length tasks ≤ 65535
-  few = omega (arith, tasks_length, s.fits.0)
-
-  pub same_length : length (take len places) ≡ length tasks
-  same_length = length-take len places ∙ (let w = s.fits.2 in omega (arith, tasks_length))
-
-  pub positioned : (i : ℕ) → i < length tasks → Position (at tasks i) (place (take len places) i)
-  positioned i l =
-      let m : i < len = omega (arith, tasks_length) in
-      rw (task_here i m, get_or-take len places i 0 m) (k.placed (slice_index_or rows i d) (good_at i m) (slice_index places i) (s.placed i m).0 (s.placed i m).1)
-
-  pub lawfuls : (i : ℕ) → i < length tasks → Lawful (at tasks i)
-  lawfuls = each_task Lawful k.lawful
-
-  -- the present class, of a kind whose position is its class
-  pub class_now : ((r : R) (x : ℕ) → (task (says r)).class_at x ≡ x) → (i : ℕ) →
-      cond (nat_lt i len) (slice_index places i) 0 ≡ (at tasks i).class_at (place (take len places) i)
-  class_now same i = by (cases_lt i len)
-    where
-      at_here : i < len → slice_index places i ≡ (at tasks i).class_at (place (take len places) i)
-      at_here l =
-          sym (ap (λ t. t.class_at (place (take len places) i)) (task_here i l)
-          ∙ (same (slice_index_or rows i d) (place (take len places) i) ∙ get_or-take len places i 0 l))
-
-      by : (i < len) ⊎ (len ≤ i) → cond (nat_lt i len) (slice_index places i) 0 ≡ (at tasks i).class_at (place (take len places) i)
-      by (inl l) = sym (cond_below i len (slice_index places i) 0 l) ∙ at_here l
-      by (inr h) =
-          sym (cond_above i len (slice_index places i) 0 0 h refl) ∙ sym (ap (λ t. t.class_at (place (take len places) i)) (task_absent i h))
-
-  -- a job that has ended
-  pub settled_here : (i : ℕ) (o : Outcome) (y : ℕ) → i < len → y ≡ after (task (says (slice_index_or rows i d))) o (slice_index places i) →
-      take len (slice_set places i y) ≡ settled tasks (take len places) i o
-  settled_here i o y l e =
-      take-set len places i y
-      ∙ ap (set (take len places) i)
-      (e ∙ (ap (λ t. after t o (slice_index places i)) (sym (task_here i l)) ∙ ap (after (at tasks i) o) (sym (get_or-take len places i 0 l))))
-
-  pub settled_absent : (i : ℕ) (o : Outcome) → len ≤ i → take len places ≡ settled tasks (take len places) i o
-  settled_absent i o h =
-      sym (set_past (take len places) i (after (at tasks i) o (slice_index (take len places) i)) (omega (arith, length-take len places)))
-
-  -- one row more
-  pub grown : (r : R) → len < length rows → len < length places →
-      Grown task (says r) told (listed says (slice_set rows len r) (len + 1)) (take len places) (take (len + 1) (slice_set places len 1))
-  grown r h g =
-      let more : listed says (slice_set rows len r) (len + 1) ≡ told ++ (says r ∷ []) =
-      ap (map says) (take_more_set rows len r h) ∙ map_push says (take len rows) r in
-      record {
-        listed = more;
-        tasks = ap (map task) more ∙ map_push task told (says r);
-        placed = take_more_set places len 1 g;
+    -- no entry stands there
+    module _ (i : ℕ) (l : length t.entries.items ≤ i) where
+      pub missing : Absent t i
+      missing = record {
+        past = omega (arith, rows_length);
+        none = omega (arith, tasks_length);
+        means = get_or_past (tasks_of t) i no_task (omega (arith, tasks_length));
       }
 
-  pub grown_keeps : (r : R) → good r → len < length rows → Keeps good d (slice_set rows len r) (len + 1)
-  grown_keeps r ok h i l =
-      elim (same_or_below i len l) [
-        | inl e ↦ rw (e, get_or-set_same rows len r d h) (∣ ok ∣₁)
-        | inr m ↦ let ne : i ≢ len = omega arith in rw (get_or-set_other rows len i r d ne) (s.keeps i m)
-      ]
+    -- what was found at place i
+    pub looked_up : (i : ℕ) (o : Option (Bor (Entry R g))) →
+        MatchOption o (length t.entries.items ≤ i) (λ q. (i < length t.entries.items) × (q.now ≡ slice_index_or t.entries.items i q.now)) →
+        MatchOption o (Absent t i) (λ q. HeldEntry t i q.now)
+    looked_up i None h = missing i h
+    looked_up i (Some q) h = held i q.now h.0 h.1
 
-  pub grown_placed : (r : R) → good r → len < length rows → len < length places →
-      Placed classes d (slice_set rows len r) (slice_set places len 1) (len + 1)
-  grown_placed r ok h g i l =
-      elim (same_or_below i len l) [
-        | inl e ↦ rw (e, get_or-set_same rows len r d h, get_or-set_same places len 1 0 g) (omega arith, k.some r ok)
-        | inr m ↦ let ne : i ≢ len = omega arith in rw (get_or-set_other rows len i r d ne, get_or-set_other places len i 1 0 ne) (s.placed i m)
-      ]
+    -- one row more
+    pub grown : (e : Entry R g) (t' : Table R g) → e.place ≡ 1 → t'.entries.items ≡ t.entries.items ++ (e ∷ []) → Added t e.row t'
+    grown e t' p h =
+        let more : rows_of t' ≡ rows_of t ++ (g.kind.says e.row ∷ []) =
+        ap (map (λ e. g.kind.says e.row)) h ∙ map_push (λ e. g.kind.says e.row) t.entries.items e in
+        record {
+          listed = more;
+          tasks = ap (map g.kind.task) more ∙ map_push g.kind.task (rows_of t) (g.kind.says e.row);
+          placed = ap (map (λ e. e.place)) h ∙ (map_push (λ e. e.place) t.entries.items e ∙ ap (λ x. places_of t ++ (x ∷ [])) p);
+        }
 
 -- a row without fault is taken in while there is room
 pub taken : {X : Type 0} (xs : List X) (bit : ℕ) (fault : Option Denial) → length xs < 16 → fault ≡ None → add_fault xs bit fault ≡ None
 taken xs bit fault room e = rw (le-ltb 15 (length xs) (omega arith)) e
+
+-- some succession of any number of jobs, counted up to 4,095, asks for all of the demand
+pub all_asked : (t : Task) → Lawful t → Attained t → (N p r : ℕ) → r ≡ t.demand N p → Asked t (min N 4095) p r
+all_asked t law most N p r e =
+    let all = most (min N 4095) p (omega arith) in
+    record { from = all.0; outcomes = all.1; position = all.2; number = all.3; sum = all.4 ∙ (same (cases_lt N 4095) ∙ sym e) }
+  where
+    same : (N < 4095) ⊎ (4095 ≤ N) → t.demand (min N 4095) p ≡ t.demand N p
+    same (inl l) = let e : min N 4095 ≡ N = omega arith in ap (λ n. t.demand n p) e
+    same (inr h) = let e : min N 4095 ≡ 4095 = omega arith in ap (λ n. t.demand n p) e ∙ sym (law.beyond N p h)

@@ -1,14 +1,16 @@
 // What a frame row answers.
-ghost use Rattle.std.specs.Prelude.{◌≡◌, ◌+◌, ◌*◌, ◌/◌, ◌^◌, ◌<◌, ◌≤◌, min, IfNone};
-ghost use Rattle.group.specs.Task.{terms_of};
-ghost use Rattle.kinds.specs.Cycle.{next_class, successive, largest};
-ghost use Rattle.kinds.specs.Demands.{Asked};
-ghost use Rattle.kinds.specs.Rows.{GoodFramed, framed_class, framed_row_fault, framed_row_task, row_above};
+ghost use Rattle.std.specs.Prelude.{◌≡◌, ◌+◌, ◌*◌, ◌/◌, ◌^◌, ◌<◌, ◌≤◌, take};
+ghost use Rattle.kinds.specs.Cycle.{successive, largest};
+ghost use Rattle.kinds.specs.FramedRows.{framed_kind};
+ghost use Rattle.kinds.specs.Rows.{row_above};
 
+use crate::entry::Entry;
 use crate::rows::FrameRow;
 use crate::steps::{above, next_class};
+use crate::table_row::TableRow;
 use denial::{Denial, Rule};
 use group::{Outcome, Terms};
+use plate::frame::Frame;
 use plate::rules::check_frames;
 
 // What so many jobs ask for: whole turns of a cycle of `count` frames, and the rest.
@@ -17,107 +19,105 @@ fn turns_and_rest(jobs: u16, count: u16, turn: u32, rest: u32) -> u32
     requires small { jobs / count * turn + rest < 2 ^ 32 }
     ensures { result ≡ jobs / count * turn + rest }
 {
-    (jobs / count) as u32 * turn + rest
+    u32::from(jobs / count) * turn + rest
 }
 
-impl FrameRow {
-    // The first fault, as of a row that stands alone from bit 0 on. A row without fault is good.
-    pub(crate) fn fault(&self) -> Option<Denial>
-        ensures value { result ≡ framed_row_fault self.now }
-        ensures good { IfNone result (GoodFramed self.now) }
-    {
-        if self.count > 8 {
-            return Some(Rule::Ranks.denies(0, 28));
+impl TableRow for FrameRow {
+    ghost kind = { framed_kind };
+
+    ghost NUMBER_AT = { 10 };
+
+    const NUMBER_AT: u16 = 10;
+
+    fn blank() -> Self {
+        FrameRow {
+            gap: 1,
+            count: 1,
+            frames: [Frame { budget: 1, rank: 1 }; 8],
         }
-        let count = self.count as usize;
-        check_frames(self.gap, &self.frames[0..count]).err()
     }
 
-    // The terms of a frame that there is.
-    fn frame_terms(&self, class: u8) -> Terms
-        requires { (GoodFramed self.now) × ((1 ≤ class) × (class ≤ self.now.count)) }
-        ensures { result ≡ framed_class self.now class }
-    {
-        let frame = self.frames[class as usize - 1];
-        Terms {
+    fn check(&self) -> Result<(), Denial> {
+        if self.count > 8 {
+            return Err(Rule::Ranks.denies(0, 28));
+        }
+        check_frames(self.gap, &self.frames[..usize::from(self.count)])
+    }
+
+    fn gap(&self) -> u16 {
+        self.gap
+    }
+
+    fn class_count(entry: &Entry<Self>) -> u8 {
+        entry.row.count
+    }
+
+    fn class(entry: &Entry<Self>, index: usize) -> Option<Terms> {
+        entry.frames().get(index).map(|frame| Terms {
             rank: frame.rank,
             budget: frame.budget,
             tolerated: false,
-        }
+        })
     }
 
-    // The terms of a frame, zeros where there is none.
-    pub(crate) fn terms(&self, class: u8) -> Terms
-        requires { GoodFramed self.now }
-        ensures { result ≡ terms_of (framed_row_task self.now) class }
-    {
-        if class >= 1 && class <= self.count {
-            self.frame_terms(class)
-        } else {
-            Terms::NONE
-        }
+    // The next frame, however the job ended.
+    fn next(entry: &Entry<Self>, _outcome: Outcome) -> u8 {
+        next_class(entry.row.count, entry.place)
     }
 
-    // The frame after a job: the next one, however the job ended.
-    pub(crate) fn after(&self, class: u8, _outcome: Outcome) -> u8
-        ensures { result ≡ next_class self.now.count class }
+    // Whole turns, and the best of the rest.
+    fn demand(entry: &Entry<Self>, jobs: u16, rank: u8) -> u32 {
+        let jobs = jobs.min(4095);
+        let count = u16::from(entry.row.count);
+        let turn = entry.successive_above(1, entry.row.count, rank);
+        let rest = entry.largest_above((jobs % count) as u8, rank);
+        turns_and_rest(jobs, count, turn, rest)
+    }
+}
+
+impl Entry<FrameRow> {
+    // The frames of the task's cycle.
+    pub fn frames(&self) -> &[Frame]
+        ensures { result.now ≡ take self.now.row.count self.now.row.frames }
     {
-        next_class(self.count, class)
+        &self.row.frames[..usize::from(self.row.count)]
     }
 
     // The budget of a frame, if its rank is above `rank`.
     fn budget_above(&self, frame: u8, rank: u8) -> u32
-        requires keeps { GoodFramed self.now }
         requires low { 1 ≤ frame }
-        requires high { frame ≤ self.now.count }
-        ensures { result ≡ row_above self.now rank frame }
+        requires high { frame ≤ self.now.row.count }
+        ensures { result ≡ row_above self.now.row rank frame }
     {
-        let frame = self.frames[frame as usize - 1];
-        above(rank, frame.rank, frame.budget) as u32
+        let frame = self.row.frames[usize::from(frame) - 1];
+        u32::from(above(rank, frame.rank, frame.budget))
     }
 
     // The budgets above `rank` of `number` successive frames.
     fn successive_above(&self, start: u8, number: u8, rank: u8) -> u32
-        requires keeps { GoodFramed self.now }
         requires low { 1 ≤ start }
-        requires high { start ≤ self.now.count }
+        requires high { start ≤ self.now.row.count }
         requires few { number ≤ 8 }
-        ensures { result ≡ successive (row_above self.now rank) self.now.count start number }
+        ensures { result ≡ successive (row_above self.now.row rank) self.now.row.count start number }
     {
         let mut sum = 0;
         let mut frame = start;
-        let mut left = number;
-        while left > 0 {
+        for _ in 0..number {
             sum += self.budget_above(frame, rank);
-            frame = next_class(self.count, frame);
-            left -= 1;
+            frame = next_class(self.row.count, frame);
         }
         sum
     }
 
     // The largest such sum over all starts.
     fn largest_above(&self, number: u8, rank: u8) -> u32
-        requires keeps { GoodFramed self.now }
         requires few { number ≤ 8 }
-        ensures { result ≡ largest self.now.count (λ x. successive (row_above self.now rank) self.now.count x number) }
+        ensures { result ≡ largest self.now.row.count (λ x. successive (row_above self.now.row rank) self.now.row.count x number) }
     {
         let mut best = 0;
-        for start in 1..self.count + 1 {
+        for start in 1..=self.row.count {
             best = self.successive_above(start, number, rank).max(best);
         }
         best
-    }
-
-    // The most that `jobs` jobs in a row can ask for above `rank`: whole turns, and the best of the rest.
-    pub(crate) fn demand(&self, jobs: u16, rank: u8) -> u32
-        requires { GoodFramed self.now }
-        ensures value { result ≡ (framed_row_task self.now).demand jobs rank }
-        ensures attained { Asked (framed_row_task self.now) (min jobs 4095) rank result }
-    {
-        let jobs = jobs.min(4095);
-        let count = self.count as u16;
-        let turn = self.successive_above(1, self.count, rank);
-        let rest = self.largest_above((jobs % count) as u8, rank);
-        turns_and_rest(jobs, count, turn, rest)
     }
 }

@@ -2,18 +2,22 @@
 #![tactic(auto)]
 
 mod counted_row;
-mod counted_table;
+mod entry;
 mod exact;
 mod frame_row;
-mod frame_table;
-mod framed;
-mod miss_counted;
 mod rows;
 mod steps;
-#[cfg(test)]
-mod tests;
+mod table;
+mod table_group;
+mod table_row;
 
-pub use counted_table::MissCountedTable;
+pub use entry::Entry;
 pub use exact::{counts_misses, demands_are_attained, tables_are_sound};
-pub use frame_table::FrameTable;
 pub use rows::{FrameRow, MissCountedRow};
+pub use table::Table;
+pub use table_row::TableRow;
+
+// The table of miss-counted rows, and that of frame rows.
+pub type MissCountedTable = Table<MissCountedRow>;
+
+pub type FrameTable = Table<FrameRow>;

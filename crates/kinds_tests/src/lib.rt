@@ -1,5 +1,7 @@
-// Examples of the two kinds and their join.
+// Examples of the two kinds and their join, and what each of the two tables promises.
 #![tactic(auto)]
+
+mod tables;
 
 #[cfg(test)]
 mod tests {

@@ -8,11 +8,9 @@ use Rattle.denial.specs.Checks.{unless}
 use Rattle.plate.specs.Plans.{SoundCounted, SoundFramed}
 use Rattle.kinds.specs.declared.rows.MissCountedRow.{MissCountedRow}
 use Rattle.kinds.specs.declared.rows.FrameRow.{FrameRow}
-use Rattle.kinds.specs.declared.counted_table.MissCountedTable.{MissCountedTable}
-use Rattle.kinds.specs.declared.frame_table.FrameTable.{FrameTable}
 use Rattle.kinds.specs.MissCounted.{counted_task}
 use Rattle.kinds.specs.Frames.{framed_task}
-use Rattle.kinds.specs.Listed.{counted_rows, counted_places, CountedAdded, framed_rows, framed_places, FramedAdded}
+use Rattle.kinds.specs.Listed.{MissCountedTable, FrameTable, counted_rows, counted_places, CountedAdded, framed_rows, framed_places, FramedAdded}
 use Rattle.kinds.specs.Rows.{counted_of, counted_row_fault, framed_of, framed_row_fault}
 use Rattle.kinds.specs.Tables.{add_fault, Grown}
 use Rattle.kinds.specs.CountedRows
@@ -27,18 +25,18 @@ use Rattle.plan.proofs.Afters.{firsts_push}
 -- a row without fault, in a table that has room, is the last of its rows, and at its first position
 row_taken : {X : Type 0} (task : X → Task) (xs xs' : List X) (ps ps' : List ℕ) (place : ℕ) (fault : Option Denial) (y x : X) (r : Result (Unit {0}) Denial) (stays : Type 0)
     → length xs < 16 → fault ≡ None → y ≡ x → r ≡ unless (add_fault xs place fault) tt → MatchResult r (λ _. Grown task y xs xs' ps ps') (λ _. stays)
-    → (xs' ≡ xs ++ (x ∷ [])) × (ps ≡ firsts xs → ps' ≡ firsts xs')
+    → (r ≡ Ok tt) × (xs' ≡ xs ++ (x ∷ [])) × (ps ≡ firsts xs → ps' ≡ firsts xs')
 row_taken task xs xs' ps ps' place fault y x r stays room none says e w =
     let ok : r ≡ Ok tt = e ∙ ap (λ o. unless o tt) (taken xs place fault room none) in
     let grown = MatchResult-at_ok (λ _. Grown task y xs xs' ps ps') (λ _. stays) tt ok w in
     let rows : xs' ≡ xs ++ (x ∷ []) = grown.listed ∙ ap (λ z. xs ++ (z ∷ [])) says in
-    (rows, λ first. grown.placed ∙ ap (λ qs. qs ++ (1 ∷ [])) first ∙ sym (firsts_push xs x) ∙ ap firsts (sym rows))
+    (ok, rows, λ first. grown.placed ∙ ap (λ qs. qs ++ (1 ∷ [])) first ∙ sym (firsts_push xs x) ∙ ap firsts (sym rows))
 
 pub counted_taken : (t t' : MissCountedTable) (row : MissCountedRow) (x : Counted) (r : Result (Unit {0}) Denial)
     → length (counted_rows t) < 16 → row.misses ≤ 7 → counted_of row ≡ x → SoundCounted x
     → r ≡ unless (add_fault (counted_rows t) 4 (counted_row_fault row)) tt
     → MatchResult r (λ _. CountedAdded t row t') (λ _. t' ≡ t)
-    → (counted_rows t' ≡ counted_rows t ++ (x ∷ [])) × (counted_places t ≡ firsts (counted_rows t) → counted_places t' ≡ firsts (counted_rows t'))
+    → (r ≡ Ok tt) × (counted_rows t' ≡ counted_rows t ++ (x ∷ [])) × (counted_places t ≡ firsts (counted_rows t) → counted_places t' ≡ firsts (counted_rows t'))
 counted_taken t t' row x r room few says sound =
     row_taken counted_task (counted_rows t) (counted_rows t') (counted_places t) (counted_places t') 4 (counted_row_fault row) (counted_of row) x r (t' ≡ t)
     room (CountedRows.sound_faultless row few (rw says sound)) says
@@ -47,7 +45,7 @@ pub framed_taken : (t t' : FrameTable) (row : FrameRow) (x : Framed) (r : Result
     → length (framed_rows t) < 16 → row.count ≤ 8 → framed_of row ≡ x → SoundFramed x
     → r ≡ unless (add_fault (framed_rows t) 10 (framed_row_fault row)) tt
     → MatchResult r (λ _. FramedAdded t row t') (λ _. t' ≡ t)
-    → (framed_rows t' ≡ framed_rows t ++ (x ∷ [])) × (framed_places t ≡ firsts (framed_rows t) → framed_places t' ≡ firsts (framed_rows t'))
+    → (r ≡ Ok tt) × (framed_rows t' ≡ framed_rows t ++ (x ∷ [])) × (framed_places t ≡ firsts (framed_rows t) → framed_places t' ≡ firsts (framed_rows t'))
 framed_taken t t' row x r room few says sound =
     row_taken framed_task (framed_rows t) (framed_rows t') (framed_places t) (framed_places t') 10 (framed_row_fault row) (framed_of row) x r (t' ≡ t)
     room (FramedRows.sound_faultless row few (rw says sound)) says

@@ -2,4 +2,3 @@ pub mod Rows
 pub mod Loads
 pub mod Saves
 pub mod Saved
-pub mod Concats

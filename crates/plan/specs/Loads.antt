@@ -4,9 +4,7 @@ use Rattle.plate.specs.Rows.{Counted, Framed, frames_of}
 use Rattle.plate.specs.Plans.{Plan, Sound, decode, encode}
 use Rattle.plate.specs.Reading.{Handed, State}
 use Rattle.plate.specs.Reading.Handed.{counted, framed}
-use Rattle.kinds.specs.declared.counted_table.MissCountedTable.{MissCountedTable}
-use Rattle.kinds.specs.declared.frame_table.FrameTable.{FrameTable}
-use Rattle.kinds.specs.Listed.{counted_rows, counted_places, framed_rows, framed_places}
+use Rattle.kinds.specs.Listed.{MissCountedTable, FrameTable, counted_rows, counted_places, framed_rows, framed_places}
 use Rattle.plan.specs.Rows.{firsts}
 
 -- the rows of two tables

@@ -2,4 +2,5 @@
 #![tactic(auto)]
 
 pub mod load;
+mod plate_row;
 pub mod save;

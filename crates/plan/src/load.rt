@@ -1,5 +1,5 @@
 // Loading a plate into two tables.
-ghost use Rattle.std.specs.Prelude.{◌≡◌, ◌-◌, ◌<◌, ◌≤◌, [], length, Ok, Err, MatchResult};
+ghost use Rattle.std.specs.Prelude.{◌≡◌, ◌<◌, ◌≤◌, [], length, Ok, Err, MatchResult};
 ghost use Rattle.plate.specs.Plans.{Refused};
 ghost use Rattle.plate.specs.Reading.{handed, rest_of, SoundRow};
 ghost use Rattle.plate.specs.Readers.{state, plate_of};
@@ -15,29 +15,21 @@ use plate::frame::unpack;
 use plate::reader::Reader;
 use plate::row::Row;
 
-// The row of so many classes.
-fn with_classes(gap: u16, budget: u16, classes: u8, ranks: [u8; 8]) -> MissCountedRow
-    requires { 1 ≤ classes }
-    ensures { result ≡ record { gap = gap; budget = budget; misses = classes - 1; ranks = ranks } }
-{
-    MissCountedRow {
-        gap,
-        budget,
-        misses: classes - 1,
-        ranks,
-    }
-}
-
-// The row of a table, from what a plate says.
+// The row of a table, from what a plate says. (No `From`: all its types are of other crates.)
 fn counted_row(gap: u16, budget: u16, ranks: &[u8]) -> MissCountedRow
     requires { (1 ≤ length ranks.now) × (length ranks.now ≤ 8) }
     ensures says { counted_of result ≡ record { gap = gap; budget = budget; ranks = ranks.now } }
     ensures few { result.misses ≤ 7 }
 {
+    let classes = ranks.len();
     let mut all = [0; 8];
-    let n = ranks.len();
-    all[0..n].copy_from_slice(ranks);
-    with_classes(gap, budget, n as u8, all)
+    all[..classes].copy_from_slice(ranks);
+    MissCountedRow {
+        gap,
+        budget,
+        misses: classes as u8 - 1,
+        ranks: all,
+    }
 }
 
 // The same of a row of frames.
@@ -53,68 +45,76 @@ fn frame_row(gap: u16, bytes: &[u8]) -> FrameRow
     }
 }
 
-// Takes a row into the table of its kind, where there is room for it.
-fn take_row(row: Row, counted: &mut MissCountedTable, frames: &mut FrameTable)
-    requires sound { SoundRow (handed row) }
-    requires room { RoomFor (handed row) (length (counted_rows counted.old)) (length (framed_rows frames.old)) }
-    ensures rows { Added (handed row.entry) (counted_rows counted.old) (counted_rows counted.new)
-        (framed_rows frames.old) (framed_rows frames.new) }
-    ensures first { AtFirst counted.old frames.old → AtFirst counted.new frames.new }
-{
-    match row {
-        Row::MissCounted {
-            gap,
-            budget,
-            ranks,
-            ..
-        } => {
-            let _ = counted.add(counted_row(gap, budget, ranks));
+// The two tables of a plan.
+#[derive(Drop)]
+struct Plan {
+    counted: MissCountedTable,
+    frames: FrameTable,
+}
+
+impl Plan {
+    // A plan without rows.
+    fn new() -> Self
+        ensures rows { (counted_rows result.counted ≡ []) × (framed_rows result.frames ≡ []) }
+        ensures places { (counted_places result.counted ≡ []) × (framed_places result.frames ≡ []) }
+    {
+        Plan {
+            counted: MissCountedTable::new(),
+            frames: FrameTable::new(),
         }
-        Row::Frames {
-            gap,
-            frames: bytes,
-            ..
-        } => {
-            let _ = frames.add(frame_row(gap, bytes));
+    }
+
+    // Takes a row into the table of its kind, where there is room for it.
+    fn take(&mut self, row: Row) -> Result<(), Denial>
+        requires sound { SoundRow (handed row) }
+        requires room { RoomFor (handed row) (length (counted_rows self.old.counted)) (length (framed_rows self.old.frames)) }
+        ensures result { result ≡ Ok tt }
+        ensures rows { Added (handed row.entry) (counted_rows self.old.counted) (counted_rows self.new.counted)
+            (framed_rows self.old.frames) (framed_rows self.new.frames) }
+        ensures first { AtFirst self.old.counted self.old.frames → AtFirst self.new.counted self.new.frames }
+    {
+        match row {
+            Row::MissCounted {
+                gap,
+                budget,
+                ranks,
+                ..
+            } => self.counted.add(counted_row(gap, budget, ranks)),
+            Row::Frames {
+                gap,
+                frames: bytes,
+                ..
+            } => self.frames.add(frame_row(gap, bytes)),
         }
+    }
+
+    // Takes in all the rows to come.
+    fn fill(&mut self, reader: &mut Reader) -> Result<(), Denial>
+        requires opened { 0 < (state reader.old).place }
+        requires room { Room (state reader.old) self.old.counted self.old.frames }
+        requires first { AtFirst self.old.counted self.old.frames }
+        ensures { MatchResult result
+            (λ _. (after_rows (counted_rows self.old.counted) (framed_rows self.old.frames)
+            (rest_of (plate_of reader.old) (state reader.old)) ≡ Ok (plan_of self.new.counted self.new.frames))
+            × AtFirst self.new.counted self.new.frames)
+            (λ d. rest_of (plate_of reader.old) (state reader.old) ≡ Err d) }
+    {
+        while let Some(row) = reader.next_row()? {
+            self.take(row)?;
+        }
+        Ok(())
     }
 }
 
-// Takes in all the rows to come.
-fn fill(
-    reader: &mut Reader,
-    counted: &mut MissCountedTable,
-    frames: &mut FrameTable,
-) -> Result<(), Denial>
-    requires opened { 0 < (state reader.old).place }
-    requires room { Room (state reader.old) counted.old frames.old }
-    requires first { AtFirst counted.old frames.old }
-    ensures { MatchResult result
-        (λ _. (after_rows (counted_rows counted.old) (framed_rows frames.old)
-        (rest_of (plate_of reader.old) (state reader.old)) ≡ Ok (plan_of counted.new frames.new))
-        × AtFirst counted.new frames.new)
-        (λ d. rest_of (plate_of reader.old) (state reader.old) ≡ Err d) }
-{
-    while let Some(row) = reader.next_row()? {
-        take_row(row, counted, frames);
-    }
-    Ok(())
-}
-
-// Loads a plate into two empty tables; what they hold after a refusal is of no use.
-fn load_new(
-    plate: &[u8],
-    counted: &mut MissCountedTable,
-    frames: &mut FrameTable,
-) -> Result<(), Denial>
-    requires rows { (counted_rows counted.old ≡ []) × (framed_rows frames.old ≡ []) }
-    requires places { (counted_places counted.old ≡ []) × (framed_places frames.old ≡ []) }
-    ensures { MatchResult result (λ _. Loaded plate.now counted.new frames.new) (λ d. Refused plate.now d) }
+// The plan of a plate.
+fn plan_from(plate: &[u8]) -> Result<Plan, Denial>
+    ensures { MatchResult result (λ p. Loaded plate.now p.counted p.frames) (λ d. Refused plate.now d) }
 {
     let mut reader = Reader::new(plate);
-    let _ = reader.open()?;
-    fill(&mut reader, counted, frames)?;
-    Ok(())
+    reader.open()?;
+    let mut plan = Plan::new();
+    plan.fill(&mut reader)?;
+    Ok(plan)
 }
 
 // Loads a plate into two tables, each row at its first position. A refused plate leaves both tables as they were.
@@ -126,12 +126,8 @@ pub fn load(
     ensures { MatchResult result (λ _. Loaded plate.now counted.new frames.new)
         (λ d. Refused plate.now d × (counted.new ≡ counted.old) × (frames.new ≡ frames.old)) }
 {
-    let mut new_counted = MissCountedTable::new();
-    let mut new_frames = FrameTable::new();
-    if let Err(denial) = load_new(plate, &mut new_counted, &mut new_frames) {
-        return Err(denial);
-    }
-    *counted = new_counted;
-    *frames = new_frames;
+    let plan = plan_from(plate)?;
+    *counted = plan.counted;
+    *frames = plan.frames;
     Ok(())
 }

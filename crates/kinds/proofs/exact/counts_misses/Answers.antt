@@ -1,4 +1,4 @@
-use Rattle.kinds.proofs.Counting.{one_frame_counts}
+use Rattle.kinds.specs.Counting.{one_frame_counts}
 use Rattle.kinds.proofs.Listed.{table_counts}
 use Rattle.kinds.proofs.exact.counts_misses.Goals as goal
 

@@ -1,4 +1,4 @@
-use Rattle.kinds.proofs.Attained.{counted_attained, framed_attained}
+use Rattle.kinds.specs.Attained.{counted_attained, framed_attained}
 use Rattle.kinds.proofs.exact.demands_are_attained.Goals as goal
 
 pub returns : goal.returns

@@ -1,51 +1,52 @@
-use Rattle.std.proofs.Common.{length, Ok, sym, refl, ap, ◌∙◌, arith}
-use Rattle.plate.specs.Plans.{Plan, Sound, encode, unless}
+use Rattle.std.proofs.Common.{◌≡◌, ◌+◌, length, Ok, sym, ap, ◌∙◌}
+use Rattle.std.proofs.lemmas.Result.{err_from_is_err_and}
+use Rattle.plate.specs.Plans.{encode, unless, header_bytes}
+use Rattle.plate.specs.Writing.{left}
 use Rattle.plate.proofs.Trips.{written_is_read}
-use Rattle.kinds.specs.Listed.{counted_rows, framed_rows}
-use Rattle.kinds.proofs.Listed.{counted_sound, counted_few, framed_sound, framed_few}
-use Rattle.plan.specs.Saved.{plan_size, plan_fault, plan_fits, plan_written}
+use Rattle.plan.specs.Loads.{plan_of}
+use Rattle.plan.specs.Saved.{plan_size, plan_sound, plan_refused, plan_goes, plan_headed, plan_written, no_refusal, same_end}
 use Rattle.plan.proofs.save.save.Goals as goal
 
-pub overflow_add-len : goal.overflow_add-len
-overflow_add-len c =
-    let m = c.len.ensures.rows in
-    let n = c.len-2.ensures.rows in
-    record { fits = omega (arith, m, n, counted_few c.args.counted.now, framed_few c.args.frames.now) }
+pub returns-in_err-check_room-clause-result : goal.returns-in_err-check_room-clause-result
+returns-in_err-check_room-clause-result c =
+    let p = err_from_is_err_and c.from_residual.result c.from_residual.ensures.1 in
+    rw (p.1, p.2)
+    (plan_refused c.args.counted.now c.args.frames.now _ _ _ _ (length c.args.out.now) c.len.ensures.rows c.len-2.ensures.rows
+    c.size_of.ensures.value c.size_of-2.ensures.value _ (sym c.check_room.ensures ∙ c.in_err-check_room.was))
 
-pub returns-in-Some : goal.returns-in-Some
-returns-in-Some c =
-    let cs = counted_rows c.args.counted.now in
-    let fs = framed_rows c.args.frames.now in
-    let plan : Plan = record { counted = cs; framed = fs } in
-    let size = plan_size cs fs _ _ c.size_of.ensures.value c.size_of-2.ensures.value in
-    let fault = plan_fault cs fs _ _ _ (length c.args.out.now) c.len.ensures.rows c.len-2.ensures.rows size in
-    record { result = ap (λ o. unless o (length (encode plan))) (c.in-Some.ensures ∙ fault); out = refl; back = tt }
+pub returns-in_err-at : goal.returns-in_err-at
+returns-in_err-at c =
+    let t = c.args.counted.now in
+    let u = c.args.frames.now in
+    let len = length c.args.out.now in
+    let goes =
+    plan_goes t u _ _ _ _ len c.len.ensures.rows c.len-2.ensures.rows c.size_of.ensures.value c.size_of-2.ensures.value _
+    (sym c.check_room.ensures ∙ c.in_ok-check_room.was) in
+    let head = plan_headed t u _ _ c.len-3.ensures.rows c.len-4.ensures.rows len _ goes.1 goes.2 c.write_header.ensures.result in
+    absurd (no_refusal c.write_header.result 2 _ head c.in_err-at.was)
+
+pub returns-in_err-at-2 : goal.returns-in_err-at-2
+returns-in_err-at-2 c = absurd (no_refusal c.write_all.result _ _ c.write_all.ensures.end c.in_err-at-2.was)
 
 pub returns : goal.returns
 returns c =
-    let cs = counted_rows c.args.counted.now in
-    let fs = framed_rows c.args.frames.now in
-    let plan : Plan = record { counted = cs; framed = fs } in
-    let m = c.len.ensures.rows in
-    let n = c.len-2.ensures.rows in
-    let size = plan_size cs fs _ _ c.size_of.ensures.value c.size_of-2.ensures.value in
-    let fault = plan_fault cs fs _ _ _ (length c.args.out.now) m n size in
-    let none = sym fault ∙ sym c.in_default.ensures in
-    let fits = plan_fits _ _ _ none in
-    let few = counted_few c.args.counted.now in
-    let few-frames = framed_few c.args.frames.now in
-    let sound : Sound plan = record {
-      some = fits.0;
-      few_counted = few;
-      few_framed = few-frames;
-      counted = counted_sound c.args.counted.now;
-      framed = framed_sound c.args.frames.now;
-    } in
+    let t = c.args.counted.now in
+    let u = c.args.frames.now in
+    let out = c.args.out.now in
+    let goes =
+    plan_goes t u _ _ _ _ (length out) c.len.ensures.rows c.len-2.ensures.rows c.size_of.ensures.value c.size_of-2.ensures.value _
+    (sym c.check_room.ensures ∙ c.in_ok-check_room.was) in
+    let head = plan_headed t u _ _ c.len-3.ensures.rows c.len-4.ensures.rows (length out) _ goes.1 goes.2 c.write_header.ensures.result in
+    let at = same_end c.in_ok-at.at 2 (sym c.in_ok-at.was ∙ head) in
+    let at-2 = same_end c.in_ok-at-2.at (c.in_ok-at.at + _) (sym c.in_ok-at-2.was ∙ c.write_all.ensures.end) in
+    let front = c.write_header.ensures.out ∙ ap (λ r. left r out 0 (header_bytes c.len-3.result c.len-4.result)) head in
+    let rows = rw at at c.write_all.ensures.out in
+    let rows-2 = rw (at-2, at) at c.write_all-2.ensures.out in
+    let written = plan_written t u _ _ c.len-3.ensures.rows c.len-4.ensures.rows out _ _ _ goes.2 front rows rows-2 in
+    let end = rw (at-2, at) at c.write_all-2.ensures.end in
+    let done : c.write_all-2.result ≡ Ok (length (encode (plan_of t u))) = end ∙ ap Ok (plan_size t u) in
     record {
-      result = ap Ok size ∙ ap (λ o. unless o (length (encode plan))) (sym none);
-      out =
-          plan_written c.args.out.now _ _ _ cs fs _ _ _ c.write_header.result c.len-3.ensures.rows c.len-4.ensures.rows few few-frames fits.0
-          fits.1 c.write_header.ensures.result c.write_header.ensures.out c.write_all-at.ensures.end
-          c.write_all-at.ensures.out c.write_all.ensures.out;
-      back = written_is_read plan sound;
+      result = done ∙ ap (λ o. unless o (length (encode (plan_of t u)))) (sym goes.0);
+      out = written ∙ ap (λ r. left r out 0 (encode (plan_of t u))) (sym done);
+      back = rw done (written_is_read (plan_of t u) (plan_sound t u goes.1));
     }

@@ -1,6 +1,7 @@
 use Rattle.std.proofs.Common.{◌≡◌, ◌*◌, ◌≤◌, length, take}
-use Rattle.plan.specs.Saves.{concat}
+use Rattle.std.specs.List.{flat_map}
 use Rattle.plan.proofs.save.size_of.Given as goal
 
-abbrev pub invariant-loop-i : goal.invariant-loop-i
-invariant-loop-i g l = (l.size ≡ length (concat (take l.i (g.T.Rows.bytes l.rows)))) × (l.size ≤ 26 * l.i)
+abbrev pub invariant-loop-entry : goal.invariant-loop-entry
+invariant-loop-entry g l =
+    (l.size ≡ length (flat_map (λ e. g.R.PlateRow.bytes e.row) (take l.entry-index l.entry-items))) × (l.size ≤ 26 * l.entry-index)

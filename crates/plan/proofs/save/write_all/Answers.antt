@@ -1,42 +1,26 @@
-use Rattle.std.proofs.Common.{◌+◌, length, sym, ap, ◌∙◌, arith}
-use Rattle.plate.specs.Writing.{put_at}
-use Rattle.plate.proofs.Puts.{put_none}
-use Rattle.plan.specs.Concats.{concat_length, concat_front, concat_all, put_more}
+use Rattle.std.proofs.Common.{◌+◌, ◌≤◌, length, take, refl, sym, ◌∙◌, arith}
+use Rattle.std.specs.List.{flat_map}
+use Rattle.std.proofs.lemmas.List.Folds.{length-flat_map-take}
+use Rattle.plan.specs.Saved.{size_more, put_more, same_end}
 use Rattle.plan.proofs.save.write_all.Goals as goal
 
-pub loop-i-init : goal.loop-i-init
-loop-i-init g c = (omega arith, sym (put_none c.args.out.now c.args.at))
+pub write-requires : goal.write-requires
+write-requires g c =
+    let xs = c.entries-entry-items.result.now in
+    let room : c.args.at + length (flat_map (λ e. g.R.PlateRow.bytes e.row) xs) ≤ length c.args.out.now = rw c.entries-entry-items.ensures c.requires in
+    let fits = rw (← c.entry-item.is) at (length-flat_map-take (λ e. g.R.PlateRow.bytes e.row) xs c.loop-entry.entry-index c.entry-item.result (omega arith)) in
+    omega arith
 
-pub write_row-requires : goal.write_row-requires
-write_row-requires g c =
-    let xss = g.T.Rows.bytes c.args.rows.now in
-    let i = c.loop-i.i in
-    let more = concat_length xss i (omega arith) in
-    let front = concat_front xss (i + 1) in
-    record { here = omega arith; room = omega arith }
-
-pub overflow_add-end : goal.overflow_add-end
-overflow_add-end g c =
-    let xss = g.T.Rows.bytes c.args.rows.now in
-    let more = concat_length xss c.loop-i.i (omega arith) in
-    let front = concat_front xss (c.loop-i.i + 1) in
-    record { fits = omega arith }
-
-pub loop-i-preserved : goal.loop-i-preserved
-loop-i-preserved g c =
-    let xss = g.T.Rows.bytes c.args.rows.now in
-    let i = c.loop-i.i in
-    let more = concat_length xss i (omega arith) in (
-      omega arith,
-      put_more c.args.out.now c.loop-i.out _ xss c.args.at i c.loop-i.end (omega arith) c.requires
-          c.loop-i.invariant.0 c.loop-i.invariant.1 c.write_row.ensures,
+pub loop-entry-preserved : goal.loop-entry-preserved
+loop-entry-preserved g c =
+    let xs = c.entries-entry-items.result.now in
+    let i = c.loop-entry.entry-index in
+    let x = c.entry-item.result in
+    let room : c.args.at + length (flat_map (λ e. g.R.PlateRow.bytes e.row) xs) ≤ length c.args.out.now = rw c.entries-entry-items.ensures c.requires in
+    let end = same_end c.in_ok-end.end (c.loop-entry.end + length (g.R.PlateRow.bytes x.row)) (sym c.in_ok-end.was ∙ c.write.ensures.end) in
+    let more = size_more (λ e. g.R.PlateRow.bytes e.row) xs i (length (flat_map (λ e. g.R.PlateRow.bytes e.row) (take i xs))) x
+    (omega arith) (sym c.entry-item.is) refl in (
+      omega (arith, c.loop-entry.invariant.0),
+      put_more (λ e. g.R.PlateRow.bytes e.row) c.args.out.now c.loop-entry.out c.write.new.out xs c.args.at i c.loop-entry.end x (omega arith)
+          (sym c.entry-item.is) room c.loop-entry.invariant.0 c.loop-entry.invariant.1 c.write.ensures.out,
     )
-
-pub returns : goal.returns
-returns g c =
-    let xss = g.T.Rows.bytes c.args.rows.now in
-    let all = concat_all xss c.loop-i.i (omega arith) in
-    record {
-      end = c.loop-i.invariant.0 ∙ ap (λ t. c.args.at + length t) all;
-      out = c.loop-i.invariant.1 ∙ ap (put_at c.args.out.now c.args.at) all;
-    }
