@@ -7,7 +7,7 @@ ghost use Rattle.plan.specs.Loads.{plan_of};
 ghost use Rattle.plan.specs.Saves.{save_refusal, save_fault, bytes_of};
 
 use crate::plate_row::PlateRow;
-use denial::{Denial, Rule};
+use denial::{Denial, Rule, check_room};
 use kinds::{FrameTable, MissCountedTable, Table};
 use plate::writer::write_header;
 
@@ -36,18 +36,15 @@ fn write_all<R: PlateRow>(table: &Table<R>, out: &mut [u8], at: usize) -> Result
     Ok(end)
 }
 
-// Refuses to save so many rows of `size` bytes in all in a buffer of `len`.
-fn check_room(rows: u8, size: usize, len: usize) -> Result<(), Denial>
+// Refuses to save no rows, or `size` bytes in a buffer of `len`.
+fn check_save(rows: u8, size: usize, len: usize) -> Result<(), Denial>
     requires { size < 2 ^ 16 }
     ensures { result ≡ unless (save_refusal rows size len) tt }
 {
     if rows == 0 {
         return Err(Rule::RowCounts.denies(255, 4));
     }
-    if len < size {
-        return Err(Rule::Room.denies(size as u16, 0));
-    }
-    Ok(())
+    check_room(size, len)
 }
 
 // Saves two tables as a plate in front of a buffer, and gives its length; the bytes after it stay. What was saved is read
@@ -63,7 +60,7 @@ pub fn save(
     ensures back { Then result (decode (encode (plan_of counted.now frames.now)) ≡ Ok (plan_of counted.now frames.now)) }
 {
     let size = 2 + size_of(counted) + size_of(frames);
-    check_room(counted.len() + frames.len(), size, out.len())?;
+    check_save(counted.len() + frames.len(), size, out.len())?;
     let at = write_header(out, counted.len(), frames.len())?;
     let at = write_all(counted, out, at)?;
     write_all(frames, out, at)

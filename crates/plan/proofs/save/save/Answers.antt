@@ -7,12 +7,12 @@ use Rattle.plan.specs.Loads.{plan_of}
 use Rattle.plan.specs.Saved.{plan_size, plan_sound, plan_refused, plan_goes, plan_headed, plan_written, no_refusal, same_end}
 use Rattle.plan.proofs.save.save.Goals as goal
 
-pub returns-in_err-check_room-clause-result : goal.returns-in_err-check_room-clause-result
-returns-in_err-check_room-clause-result c =
+pub returns-in_err-check_save-clause-result : goal.returns-in_err-check_save-clause-result
+returns-in_err-check_save-clause-result c =
     let p = err_from_is_err_and c.from_residual.result c.from_residual.ensures.1 in
     rw (p.1, p.2)
     (plan_refused c.args.counted.now c.args.frames.now _ _ _ _ (length c.args.out.now) c.len.ensures.rows c.len-2.ensures.rows
-    c.size_of.ensures.value c.size_of-2.ensures.value _ (sym c.check_room.ensures ∙ c.in_err-check_room.was))
+    c.size_of.ensures.value c.size_of-2.ensures.value _ (sym c.check_save.ensures ∙ c.in_err-check_save.was))
 
 pub returns-in_err-at : goal.returns-in_err-at
 returns-in_err-at c =
@@ -21,7 +21,7 @@ returns-in_err-at c =
     let len = length c.args.out.now in
     let goes =
     plan_goes t u _ _ _ _ len c.len.ensures.rows c.len-2.ensures.rows c.size_of.ensures.value c.size_of-2.ensures.value _
-    (sym c.check_room.ensures ∙ c.in_ok-check_room.was) in
+    (sym c.check_save.ensures ∙ c.in_ok-check_save.was) in
     let head = plan_headed t u _ _ c.len-3.ensures.rows c.len-4.ensures.rows len _ goes.1 goes.2 c.write_header.ensures.result in
     absurd (no_refusal c.write_header.result 2 _ head c.in_err-at.was)
 
@@ -35,7 +35,7 @@ returns c =
     let out = c.args.out.now in
     let goes =
     plan_goes t u _ _ _ _ (length out) c.len.ensures.rows c.len-2.ensures.rows c.size_of.ensures.value c.size_of-2.ensures.value _
-    (sym c.check_room.ensures ∙ c.in_ok-check_room.was) in
+    (sym c.check_save.ensures ∙ c.in_ok-check_save.was) in
     let head = plan_headed t u _ _ c.len-3.ensures.rows c.len-4.ensures.rows (length out) _ goes.1 goes.2 c.write_header.ensures.result in
     let at = same_end c.in_ok-at.at 2 (sym c.in_ok-at.was ∙ head) in
     let at-2 = same_end c.in_ok-at-2.at (c.in_ok-at.at + _) (sym c.in_ok-at-2.was ∙ c.write_all.ensures.end) in
