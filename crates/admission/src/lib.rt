@@ -14,7 +14,8 @@ use group::Group;
 use marked::Marked;
 use marks::mark_ranks;
 
-// Refuses a start before ranks and bounds are looked at.
+// Refuses a start before ranks and bounds are looked at. (`group` and `started` are what `admit` is given: a struct of both would be
+// made there and taken apart here.)
 fn check_early<G: Group>(group: &G, started: bool, room: usize) -> Result<(), Denial>
     ensures { result ≡ unless (early_fault started room (G.tasks group.now)) tt }
 {

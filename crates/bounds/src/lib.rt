@@ -22,7 +22,7 @@ pub fn check_count<G: Group>(group: &G) -> Result<(), Denial>
     Ok(())
 }
 
-// And a task number that is not below the count.
+// And a task number that is not below the count. (The public calls name a class by its numbers; inside, a `Job` carries them.)
 pub fn check_task<G: Group>(group: &G, task: u16) -> Result<(), Denial>
     ensures { result ≡ unless (task_fault (G.tasks group.now) task) tt }
 {

@@ -11,7 +11,7 @@ use std::{env, fmt, fs, io};
 // A row, with the number of its task.
 #[derive(Drop)]
 struct Task<'a, R> {
-    number: u16,
+    number: usize,
     row: &'a R,
 }
 
@@ -52,17 +52,15 @@ struct Rows {
 
 impl fmt::Display for Rows {
     fn fmt<W: fmt::Write>(&self, f: &mut fmt::Formatter<W>) -> fmt::Result {
-        let before = u16::from(self.counted.len());
-        for number in 0..before {
-            if let Some(row) = self.counted.row(number) {
-                write!(f, "{}", Task { number, row })?;
-            }
+        let counted = self.counted.entries();
+        for (number, entry) in counted.iter().enumerate() {
+            let row = &entry.row;
+            write!(f, "{}", Task { number, row })?;
         }
-        for i in 0..u16::from(self.frames.len()) {
-            if let Some(row) = self.frames.row(i) {
-                let number = before.saturating_add(i);
-                write!(f, "{}", Task { number, row })?;
-            }
+        for (i, entry) in self.frames.entries().iter().enumerate() {
+            let row = &entry.row;
+            let number = counted.len().saturating_add(i);
+            write!(f, "{}", Task { number, row })?;
         }
         Ok(())
     }

@@ -72,6 +72,7 @@ impl<A: Group, B: Group> Group for Join<A, B> {
         together(self.first.count(), self.second.count())
     }
 
+    // Each question asks another method, of groups of two types: so each has two closures of its own.
     fn gap(&self, task: u16) -> u16 {
         self.part(task)
             .ask(0, |i| self.first.gap(i), |i| self.second.gap(i))

@@ -109,7 +109,7 @@ impl Entry<FrameRow> {
         sum
     }
 
-    // The largest such sum over all starts.
+    // The largest such sum over all starts. (A `for`, as above: a chain of both would hide the step from one frame to the next.)
     fn largest_above(&self, number: u8, rank: u8) -> u32
         requires few { number ≤ 8 }
         ensures { result ≡ largest self.now.row.count (λ x. successive (row_above self.now.row rank) self.now.row.count x number) }

@@ -8,6 +8,7 @@ use crate::entry::Entry;
 use denial::Denial;
 use group::{Outcome, Terms};
 
+// Both impls look alike where both kinds count: what they count, and where a fault is named, is of the kind.
 // What is asked of a row that keeps the rules of its kind is asked of its entry.
 pub trait TableRow: Copy {
     // What rows of this kind say and mean, when one is good, and its first fault.

@@ -1,4 +1,4 @@
-// What each of the two tables promises, in the words of its own kind.
+// What each of the two tables promises, in the words of its own kind: twins on purpose, the generic promise read for each instance.
 ghost use Rattle.std.specs.Prelude.{◌≡◌, ◌<◌, ◌≤◌, [], length, min, IfSome, MatchOption, MatchResult, OnSome};
 ghost use Rattle.std.specs.List.{AllByRecursion};
 ghost use Rattle.denial.specs.Checks.{unless};

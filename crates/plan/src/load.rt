@@ -15,7 +15,8 @@ use plate::frame::unpack;
 use plate::reader::Reader;
 use plate::row::Row;
 
-// The row of a table, from what a plate says. (No `From`: all its types are of other crates.)
+// The row of a table, from what a plate says. (No `From`: all its types are of other crates. One for each form, as
+// the fields differ.)
 fn counted_row(gap: u16, budget: u16, ranks: &[u8]) -> MissCountedRow
     requires { (1 ≤ length ranks.now) × (length ranks.now ≤ 8) }
     ensures says { counted_of result ≡ record { gap = gap; budget = budget; ranks = ranks.now } }

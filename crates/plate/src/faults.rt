@@ -77,7 +77,8 @@ fn first_no_rank(frames: &[Frame]) -> Option<usize>
     frames.iter().position(|frame| no_rank(frame.rank))
 }
 
-// A miss-counted row keeps its rules.
+// A miss-counted row keeps its rules. It goes in by its numbers, as the public checks and writers take it: no caller has a row to give.
+// Each kind has a function of its own, since what is tested, at which bit and by which rule differs.
 pub(crate) fn check_counted(
     start: RowStart,
     gap: u16,

@@ -14,7 +14,8 @@ use super::start::RowStart;
 use denial::{Denial, Rule};
 
 // The two kinds of row differ in the fields of their heads and in the rules that they keep. What they share is in the cursor
-// and in the start of a row: a trait over both heads would have five members and their laws for one short function.
+// and in the start of a row: a trait over both heads would have five members and their laws for one short function. That the cursor
+// stands at the start, and that frame bytes are at most 24, is asked where it is used: a type for either would be made for one call.
 
 // Where a miss-counted row starts, and its fixed fields: gap 12 bits, budget 12, tolerated misses 3, spare 5.
 #[derive(Clone, Copy)]

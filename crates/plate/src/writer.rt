@@ -14,7 +14,7 @@ use arrayvec::ArrayVec;
 use denial::{Denial, check_room};
 
 // The fixed bytes of a header and of the two kinds of row differ in their layout, so each has a function; `write_row` puts any of
-// them in.
+// them in. The public writers take a row by its numbers, and the caller's buffer with a place: their signatures stay.
 
 // The two bytes of a header.
 fn header_front(counted: u8, framed: u8) -> [u8; 2]

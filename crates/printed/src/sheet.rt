@@ -52,7 +52,7 @@ fn put_front(text: &mut Text, plate: &[u8], scratch: &mut [u8; 256]) -> Result<(
     start(plan, scratch)
 }
 
-// The sheet as text.
+// The sheet as text. (`plate` and `scratch` are what `print_sheet` is given.)
 fn sheet_of(plate: &[u8], scratch: &mut [u8; 256]) -> Text
     ensures text { result.bytes ≡ sheet_text plate.now }
     ensures scratch { scratch.new ≡ marks_of (decode plate.now) scratch.old }

@@ -1,4 +1,5 @@
 // The lines of all classes of a group of work, which is asked by the numbers of tasks and classes: it has no list of them to go over.
+// That there are at most 64 tasks is asked by its three functions: a struct for that fact would be made for one caller.
 ghost use Rattle.std.specs.Prelude.{◌≡◌, ◌<◌, ◌≤◌, ◌++◌, length};
 ghost use Rattle.printed.specs.Text.{HasRoom};
 ghost use Rattle.printed.specs.Lines.{heading, task_lines, all_lines};
