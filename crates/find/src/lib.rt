@@ -4,7 +4,8 @@
 ghost use Rattle.std.specs.Prelude.{◌≡◌, ℕ, ◌<◌, Bool, IfSome};
 ghost use Rattle.find.specs.First.{first, Agrees, Searched};
 
-// The first index below `count` that passes. (A `for`: `find` of the range would wrap `passes` in one closure more.)
+// The first index below `count` that passes. (A `for`: with `find` of the range, the proof that
+// `passes` may be called did not close.)
 pub fn first_of<F: Fn(usize) -> bool>(count: usize, passes: F) -> Option<usize>
     requires { (i : ℕ) → i < count → F.pre passes i }
     ensures within { IfSome result (λ i. i < count) }
