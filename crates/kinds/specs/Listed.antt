@@ -5,17 +5,18 @@ use Rattle.plate.specs.Rows.{Counted, Framed}
 use Rattle.kinds.specs.declared.table.Table.{Table}
 use Rattle.kinds.specs.declared.rows.MissCountedRow.{MissCountedRow}
 use Rattle.kinds.specs.declared.rows.FrameRow.{FrameRow}
+use Rattle.kinds.specs.Rows.{counted_blank, framed_blank}
 use Rattle.kinds.specs.CountedRows.{counted_kind}
 use Rattle.kinds.specs.FramedRows.{framed_kind}
 use Rattle.kinds.specs.Held.{rows_of, tasks_of, places_of, Held, Added}
 
 -- the table of miss-counted rows; their number stands on a plate from bit 4 on
 abbrev pub MissCountedTable : Type 0
-MissCountedTable = Table MissCountedRow (record { kind = counted_kind; NUMBER_AT = 4 })
+MissCountedTable = Table MissCountedRow (record { kind = counted_kind; blank = counted_blank; NUMBER_AT = 4 })
 
 -- the table of frame rows; their number stands on a plate from bit 10 on
 abbrev pub FrameTable : Type 0
-FrameTable = Table FrameRow (record { kind = framed_kind; NUMBER_AT = 10 })
+FrameTable = Table FrameRow (record { kind = framed_kind; blank = framed_blank; NUMBER_AT = 10 })
 
 -- the rows of a miss-counted table
 abbrev pub counted_rows : MissCountedTable → List Counted

@@ -1,5 +1,5 @@
 -- The rows of the two tables: what each says, its first fault, and the rules that it keeps. Assumes nothing.
-use Rattle.std.specs.Prelude.{ℕ, ◌+◌, ◌<◌, ◌≤◌, length, take, Option, nat_lt}
+use Rattle.std.specs.Prelude.{ℕ, ◌+◌, ◌<◌, ◌≤◌, length, take, Option, nat_lt, replicate}
 use Rattle.std.specs.Option.{option_or}
 use Rattle.denial.specs.declared.Denial.{Denial}
 use Rattle.denial.specs.declared.Rule.TheVariants.{Ranks}
@@ -64,3 +64,10 @@ framed_row_task r = framed_task (framed_of r)
 -- the budgets of its frames whose rank is above p
 abbrev pub row_above : FrameRow → ℕ → ℕ → ℕ
 row_above r p = frame_above (take r.count r.frames) p
+
+-- the rows that stand in the places of a table that no task has
+abbrev pub counted_blank : MissCountedRow
+counted_blank = record { gap = 1; budget = 1; misses = 0; ranks = replicate 8 1 }
+
+abbrev pub framed_blank : FrameRow
+framed_blank = record { gap = 1; count = 1; frames = replicate 8 (record { budget = 1; rank = 1 }) }

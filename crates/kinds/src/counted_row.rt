@@ -2,6 +2,7 @@
 ghost use Rattle.std.specs.Prelude.{◌≡◌, ◌+◌, ◌≤◌, take};
 ghost use Rattle.kinds.specs.CountedRows.{counted_kind};
 ghost use Rattle.kinds.specs.MissCounted.{count_above, most};
+ghost use Rattle.kinds.specs.Rows.{counted_blank};
 
 use crate::entry::Entry;
 use crate::rows::MissCountedRow;
@@ -21,6 +22,8 @@ fn most_in_top(classes: u32, n: u32, jobs: u32) -> u32
 
 impl TableRow for MissCountedRow {
     ghost kind = { counted_kind };
+
+    ghost blank = { counted_blank };
 
     ghost NUMBER_AT = { 4 };
 

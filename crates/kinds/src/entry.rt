@@ -41,7 +41,12 @@ impl<R: TableRow> Entry<R> {
 
 // What stands in the places of a table that no task has.
 impl<R: TableRow> Default for Entry<R> {
-    fn default() -> Self {
+    ghost use Rattle.std.specs.Prelude.{◌≡◌};
+
+    fn default() -> Self
+        ensures row { result.row ≡ R.blank }
+        ensures place { result.place ≡ 1 }
+    {
         Entry::first(R::blank())
     }
 }

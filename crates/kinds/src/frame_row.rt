@@ -2,7 +2,7 @@
 ghost use Rattle.std.specs.Prelude.{◌≡◌, ◌+◌, ◌*◌, ◌/◌, ◌^◌, ◌<◌, ◌≤◌, take};
 ghost use Rattle.kinds.specs.Cycle.{successive, largest};
 ghost use Rattle.kinds.specs.FramedRows.{framed_kind};
-ghost use Rattle.kinds.specs.Rows.{row_above};
+ghost use Rattle.kinds.specs.Rows.{framed_blank, row_above};
 
 use crate::entry::Entry;
 use crate::rows::FrameRow;
@@ -24,6 +24,8 @@ fn turns_and_rest(jobs: u16, count: u16, turn: u32, rest: u32) -> u32
 
 impl TableRow for FrameRow {
     ghost kind = { framed_kind };
+
+    ghost blank = { framed_blank };
 
     ghost NUMBER_AT = { 10 };
 

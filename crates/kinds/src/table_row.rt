@@ -14,6 +14,9 @@ pub trait TableRow: Copy {
     // What rows of this kind say and mean, when one is good, and its first fault.
     ghost kind: { Kind Self };
 
+    // The row that stands in the places of a table that no task has.
+    ghost blank: { Self };
+
     // The place of their number on a plate, which the refusal of a seventeenth names.
     ghost NUMBER_AT: { ℕ };
 
@@ -21,7 +24,8 @@ pub trait TableRow: Copy {
 
     // A good row, for the places of a table that no task has.
     fn blank() -> Self
-        ensures { kind.good result };
+        ensures row { result ≡ blank }
+        ensures good { kind.good result };
 
     // Refuses a row by its first fault, as of a row that stands alone from bit 0 on. A row that is not refused is good.
     fn check(&self) -> Result<(), Denial>
