@@ -16,6 +16,13 @@ fn jobs_within(ticks: u16, gap: u16) -> u16
     ticks.div_ceil(gap)
 }
 
+// Whether so many ticks are enough for what is asked for within them.
+fn is_enough(work: u32, ticks: u16) -> bool
+    ensures { result ≡ nat_le work ticks }
+{
+    work <= u32::from(ticks)
+}
+
 // As many ticks as are asked for, if the gap has so many.
 fn within_gap(work: u32, gap: u16) -> Option<u16>
     ensures { result ≡ then_some (nat_le work gap) work }
@@ -111,7 +118,7 @@ impl<'g, G: Group> Job<'g, G> {
         let mut ticks = self.own;
         loop {
             let work = self.workload(ticks);
-            if work <= u32::from(ticks) {
+            if is_enough(work, ticks) {
                 return Some(ticks);
             }
             ticks = within_gap(work, gap)?;

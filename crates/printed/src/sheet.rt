@@ -9,7 +9,7 @@ ghost use Rattle.printed.specs.Text.{HasRoom};
 ghost use Rattle.printed.specs.Sheet.{FewTasks, front_of, fault_of, marks_of, sheet_text, sheet_fault};
 ghost use Rattle.printed.specs.Told.{Told};
 
-use crate::tasks::put_group;
+use crate::tasks::Lines;
 use crate::text::Text;
 use crate::verdict::verdict;
 use denial::{Denial, check_room};
@@ -48,7 +48,7 @@ fn put_front(text: &mut Text, plate: &[u8], scratch: &mut [u8; 256]) -> Result<(
     ensures scratch { scratch.new ≡ marks_of (decode plate.now) scratch.old }
 {
     let plan = loaded(plate)?;
-    put_group(text, &plan);
+    Lines { group: &plan }.put(text);
     start(plan, scratch)
 }
 

@@ -1,4 +1,5 @@
-use Rattle.std.proofs.Common.{◌∙◌, arith}
+use Rattle.std.proofs.Common.{◌∙◌, sym, arith}
+use Rattle.std.proofs.lemmas.Bool.{leb-false}
 use Rattle.group.specs.Task.{at}
 use Rattle.bounds.proofs.Own.{own_low, own_high, within, beyond}
 use Rattle.bounds.proofs.Least.{short_own, short_on, bound_none}
@@ -31,8 +32,9 @@ loop-gap-preserved g c =
     let ts = g.G.Group.tasks j.group.now in
     let w = c.workload-work.result in
     let s = within w c.gap-gap.result c.in_ok-ticks.ticks c.in_ok-ticks.ensures in
+    let more = leb-false w c.loop-gap.ticks (sym c.is_enough.ensures ∙ c.if-is_enough.false) in
     record {
-      low = omega (arith, s.0);
+      low = omega (arith, s.0, more);
       high = omega (arith, s.0, s.1);
       short = short_on ts (g.met.G.Group.lawful j.group.now) j.task j.class c.loop-gap.ticks c.in_ok-ticks.ticks c.loop-gap.invariant.short (s.0 ∙ c.workload-work.ensures);
     }
