@@ -16,7 +16,7 @@ use denial::Denial;
 use group::Group;
 
 impl Slot {
-    // As it is seen at a clock.
+    // As it is seen at a clock. (No `From`, since it takes the clock too.)
     fn seen(self, clock: u32) -> View
         ensures { result ≡ view_of clock self }
     {

@@ -50,7 +50,7 @@ fn pass_task<G: Group>(group: &mut G, table: &mut Table, tick: Tick, task: u16) 
     })
 }
 
-// The caller's list for ends, and how many records stand at its front.
+// The caller's list for ends, and how many records stand at its front. (The memory is the caller's, so no list of our own.)
 #[derive(Drop)]
 struct Records<'a> {
     list: &'a mut [End],
@@ -71,7 +71,7 @@ impl<'a> Records<'a> {
 }
 
 // Lets a tick pass for every task: how many records stand at the front of the list. Group and table by themselves, and no method
-// of the dispatcher: while the tick passes, the seats are between two clocks.
+// of the dispatcher: while the tick passes, the seats are between two clocks. And a `for`: it moves positions and writes as it goes.
 pub(crate) fn pass_all<G: Group>(
     group: &mut G,
     table: &mut Table,

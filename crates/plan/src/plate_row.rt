@@ -9,7 +9,7 @@ use denial::Denial;
 use kinds::{Entry, FrameRow, MissCountedRow, TableRow};
 use plate::writer::{write_frames, write_miss_counted};
 
-// A row of a table, by its bytes on a plate.
+// A row of a table, by its bytes on a plate. The two impls look alike, but for what each kind writes in front, and by which writer.
 pub(crate) trait PlateRow: TableRow {
     ghost bytes: { Self → List ℕ };
 

@@ -61,7 +61,7 @@ fn frame_or_zeros(bytes: &[u8], i: u16) -> Frame
     nth_frame(bytes, i).unwrap_or(Frame { budget: 0, rank: 0 })
 }
 
-// The first eight frames of frame bytes, and frames of zeros past the last.
+// The first eight frames of frame bytes, and frames of zeros past the last: an array as rows hold it, in memory that is fixed.
 pub fn unpack(bytes: &[u8]) -> [Frame; 8]
     ensures { result ≡ padded (frames_of bytes.now) }
 {

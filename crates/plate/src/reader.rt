@@ -4,7 +4,7 @@ ghost use Rattle.std.specs.Prelude.{◌≡◌, ◌+◌, ◌*◌, ◌%◌, ◌≤
 use super::cursor::Cursor;
 
 // The place of the next row and its number, and how many rows of each kind are to come. At bit place 0 the header has not been
-// read yet.
+// read yet: a flag would say it a second time, and want an invariant of both.
 #[derive(Clone, Copy)]
 pub(crate) struct Position<'a> {
     pub(crate) cursor: Cursor<'a>,

@@ -1,4 +1,4 @@
-// The rules of the two kinds of row, for a row given by its numbers.
+// The rules of the two kinds of row, for a row given by its numbers: two public calls, since a row of each kind has other numbers.
 ghost use Rattle.std.specs.Prelude.{◌≡◌, OnOk};
 ghost use Rattle.denial.specs.Checks.{unless};
 ghost use Rattle.plate.specs.Faults.{counted_fault, framed_fault};

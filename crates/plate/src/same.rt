@@ -9,7 +9,7 @@ pub fn same(a: &[u8], b: &[u8]) -> bool
     a == b
 }
 
-// Whether two bytes differ.
+// Whether two bytes differ. (A leaf, so that what it means stands in a contract.)
 fn differ(x: u8, y: u8) -> bool
     ensures { result ≡ not (x == y) }
 {
