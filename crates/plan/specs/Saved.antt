@@ -27,11 +27,17 @@ use Rattle.kinds.specs.Rows.{GoodCounted, counted_of, GoodFramed, framed_of}
 use Rattle.plan.specs.Saves.{save_refusal, save_fault, bytes_of}
 
 -- no row has more than 26 bytes
-pub counted_short : (r : MissCountedRow) → GoodCounted r → length (counted_bytes (counted_of r)) ≤ 26
-counted_short r k = let w = k.sound.classes in omega arith
+pub counted_short : (c : Counted) → SoundCounted c → length (counted_bytes c) ≤ 26
+counted_short c s = let w = s.classes in omega arith
 
-pub framed_short : (r : FrameRow) → GoodFramed r → length (framed_bytes (framed_of r)) ≤ 26
-framed_short r k = let w = k.sound.classes in omega (arith, Frameds.joined_length (framed_of r).frames)
+pub framed_short : (f : Framed) → SoundFramed f → length (framed_bytes f) ≤ 26
+framed_short f s = let w = s.classes in omega (arith, Frameds.joined_length f.frames)
+
+pub counted_row_short : (r : MissCountedRow) → GoodCounted r → length (counted_bytes (counted_of r)) ≤ 26
+counted_row_short r k = counted_short (counted_of r) k.sound
+
+pub framed_row_short : (r : FrameRow) → GoodFramed r → length (framed_bytes (framed_of r)) ≤ 26
+framed_row_short r k = framed_short (framed_of r) k.sound
 
 -- one row more counted
 pub size_more : {X : Type 0} (f : X → List ℕ) (xs : List X) (i size : ℕ) (x : X) → i < length xs → slice_index_or xs i x ≡ x
@@ -107,12 +113,52 @@ passed o u e = same o ∙ ap fault_in e
     same None = refl
     same (Some x) = refl
 
+-- Any rows as a plate.
+pub plan_size : (cs : List Counted) (fs : List Framed) (x y : ℕ) → x ≡ length (flat_map counted_bytes cs) → y ≡ length (flat_map framed_bytes fs)
+    → 2 + x + y ≡ length (encode (record { counted = cs; framed = fs }))
+plan_size cs fs x y e f = omega (arith, length-append (flat_map counted_bytes cs) (flat_map framed_bytes fs))
+
+-- the refusal by the sizes that were counted is the refusal of the plan
+pub plan_fault : (cs : List Counted) (fs : List Framed) (m n size len : ℕ) → m ≡ length cs → n ≡ length fs
+    → size ≡ length (encode (record { counted = cs; framed = fs }))
+    → save_refusal (m + n) size len ≡ save_fault (record { counted = cs; framed = fs }) len
+plan_fault cs fs m n size len em en es = rw (em, en, es) refl
+
 -- what it says that nothing is refused
-plan_fits : (rows size len : ℕ) → save_refusal rows size len ≡ None → (1 ≤ rows) × (size ≤ len)
+pub plan_fits : (rows size len : ℕ) → save_refusal rows size len ≡ None → (1 ≤ rows) × (size ≤ len)
 plan_fits rows size len e =
     let a = or_none (when (rows == 0) (denied RowCounts 255 4)) (when (nat_lt len size) (denied Room size 0)) e in
     let z = eqb-false rows 0 (when_none _ _ a.0) in
     (omega arith, ltb-false len size (when_none _ _ a.1))
+
+-- the header of no more than 16 rows a kind is written where there is room
+pub header_written : (m n len : ℕ) (r : Result ℕ Denial) → m ≤ 16 → n ≤ 16 → 1 ≤ m + n → 2 ≤ len
+    → r ≡ unless (option_or (counts_fault m n) (room_fault len 0 2)) 2 → r ≡ Ok 2
+header_written m n len r hm hn h room e =
+    let fit = counts_fit m n hm hn h in
+    let space : ltb len (0 + 2) ≡ false = le-ltb len (0 + 2) (omega arith) in
+    e ∙ rw (fit, space) refl
+
+-- the header and then all rows, one kind after the other
+pub plan_written : (out out₁ out₂ out₃ : List ℕ) (cs : List Counted) (fs : List Framed) (m n at : ℕ) (r : Result ℕ Denial)
+    → m ≡ length cs → n ≡ length fs → length cs ≤ 16 → length fs ≤ 16 → 1 ≤ length cs + length fs
+    → length (encode (record { counted = cs; framed = fs })) ≤ length out
+    → r ≡ unless (option_or (counts_fault m n) (room_fault (length out) 0 2)) 2 → out₁ ≡ left r out 0 (header_bytes m n)
+    → at ≡ 2 + length (flat_map counted_bytes cs) → out₂ ≡ put_at out₁ 2 (flat_map counted_bytes cs)
+    → out₃ ≡ put_at out₂ at (flat_map framed_bytes fs)
+    → out₃ ≡ put_at out 0 (encode (record { counted = cs; framed = fs }))
+plan_written out out₁ out₂ out₃ cs fs m n at r em en hm hn h room er e₁ ea e₂ e₃ =
+    let head : List ℕ = header_bytes (length cs) (length fs) in
+    let xs : List ℕ = flat_map counted_bytes cs in
+    let ys : List ℕ = flat_map framed_bytes fs in
+    let size = plan_size cs fs (length xs) (length ys) refl refl in
+    let ok = header_written m n (length out) r (omega arith) (omega arith) (omega arith) (omega arith) er in
+    let o₁ : out₁ ≡ put_at out 0 head = e₁ ∙ rw (ok, em, en) refl in
+    let o₂ : out₂ ≡ put_at out 0 (head ++ xs) = e₂ ∙ rw o₁ (put_put out head xs 0 (omega arith)) in
+    let after : 0 + length (head ++ xs) ≡ at = omega (arith, length-append head xs) in
+    let o₃ : out₃ ≡ put_at out 0 ((head ++ xs) ++ ys) =
+    e₃ ∙ rw (o₂, ← after) (put_put out (head ++ xs) ys 0 (omega (arith, length-append head xs))) in
+    o₃ ∙ ap (put_at out 0) (append_assoc head xs ys)
 
 -- Two tables as a plate: m and n rows were counted, of x and y bytes.
 module _ (t : MissCountedTable) (u : FrameTable) where
@@ -125,11 +171,14 @@ module _ (t : MissCountedTable) (u : FrameTable) where
   abbrev ys : List ℕ
   ys = bytes_of (λ r. framed_bytes (framed_of r)) u
 
-  pub all_bytes : xs ++ ys ≡ flat_map counted_bytes plan.counted ++ flat_map framed_bytes plan.framed
-  all_bytes = rw (flat_map-map counted_bytes (λ e. counted_of e.row) t.entries.items, flat_map-map framed_bytes (λ e. framed_of e.row) u.entries.items) refl
+  counted_all : xs ≡ flat_map counted_bytes plan.counted
+  counted_all = rw (flat_map-map counted_bytes (λ e. counted_of e.row) t.entries.items) refl
 
-  pub plan_size : 2 + length xs + length ys ≡ length (encode plan)
-  plan_size = omega (arith, length-append xs ys, ap length all_bytes)
+  framed_all : ys ≡ flat_map framed_bytes plan.framed
+  framed_all = rw (flat_map-map framed_bytes (λ e. framed_of e.row) u.entries.items) refl
+
+  pub tables_size : (x y : ℕ) → x ≡ length xs → y ≡ length ys → 2 + x + y ≡ length (encode plan)
+  tables_size x y ex ey = plan_size plan.counted plan.framed x y (ex ∙ ap length counted_all) (ey ∙ ap length framed_all)
 
   -- the rows keep the rules of their kinds
   pub plan_sound : 1 ≤ length plan.counted + length plan.framed → Sound plan
@@ -143,12 +192,12 @@ module _ (t : MissCountedTable) (u : FrameTable) where
 
   module _ (m n x y len : ℕ) (em : m ≡ length plan.counted) (en : n ≡ length plan.framed) (ex : x ≡ length xs) (ey : y ≡ length ys) where
     -- the refusal by what was counted is the refusal of the plan
-    plan_fault : save_refusal (m + n) (2 + x + y) len ≡ save_fault plan len
-    plan_fault = let size : 2 + x + y ≡ length (encode plan) = omega (arith, plan_size) in rw (em, en, size) refl
+    tables_fault : save_refusal (m + n) (2 + x + y) len ≡ save_fault plan len
+    tables_fault = plan_fault plan.counted plan.framed m n (2 + x + y) len em en (tables_size x y ex ey)
 
     pub plan_refused : (d : Denial) → ◌≡◌ {A = Result (Unit {0}) Denial} (unless (save_refusal (m + n) (2 + x + y) len) tt) (Err d)
         → ◌≡◌ {A = Result ℕ Denial} (Err d) (unless (save_fault plan len) (length (encode plan)))
-    plan_refused d e = handed_on (save_fault plan len) d (length (encode plan)) (ap (λ o. unless o tt) (sym plan_fault) ∙ e)
+    plan_refused d e = handed_on (save_fault plan len) d (length (encode plan)) (ap (λ o. unless o tt) (sym tables_fault) ∙ e)
 
     -- what is not refused has rows, and room for them
     pub plan_goes : (k : Unit {0}) → ◌≡◌ {A = Result (Unit {0}) Denial} (unless (save_refusal (m + n) (2 + x + y) len) tt) (Ok k)
@@ -156,25 +205,21 @@ module _ (t : MissCountedTable) (u : FrameTable) where
     plan_goes k e =
         let none = passed (save_refusal (m + n) (2 + x + y) len) k e in
         let fits = plan_fits (m + n) (2 + x + y) len none in
-        (sym plan_fault ∙ none, omega arith, omega (arith, plan_size))
+        (sym tables_fault ∙ none, omega arith, omega (arith, tables_size x y ex ey))
 
   module _ (m n : ℕ) (em : m ≡ length plan.counted) (en : n ≡ length plan.framed) where
     -- then the header is written
     pub plan_headed : (len : ℕ) (r : Result ℕ Denial) → 1 ≤ length plan.counted + length plan.framed → length (encode plan) ≤ len
         → r ≡ unless (option_or (counts_fault m n) (room_fault len 0 2)) 2 → r ≡ Ok 2
     plan_headed len r some room e =
-        let fit = counts_fit (length plan.counted) (length plan.framed) (counted_few t) (framed_few u) some in
-        let space : ltb len (0 + 2) ≡ false = le-ltb len (0 + 2) (omega (arith, plan_size)) in
-        e ∙ rw (em, en, fit, space) refl
+        let size = tables_size (length xs) (length ys) refl refl in
+        header_written m n len r (omega (arith, counted_few t)) (omega (arith, framed_few u)) (omega arith) (omega arith) e
 
     -- and after it all rows, one kind after the other
-    pub plan_written : (out out₁ out₂ out₃ : List ℕ) → length (encode plan) ≤ length out → out₁ ≡ put_at out 0 (header_bytes m n)
-        → out₂ ≡ put_at out₁ 2 xs → out₃ ≡ put_at out₂ (2 + length xs) ys → out₃ ≡ put_at out 0 (encode plan)
-    plan_written out out₁ out₂ out₃ room e₁ e₂ e₃ =
-        let head : List ℕ = header_bytes (length plan.counted) (length plan.framed) in
-        let o₁ : out₁ ≡ put_at out 0 head = e₁ ∙ rw (em, en) refl in
-        let o₂ : out₂ ≡ put_at out 0 (head ++ xs) = e₂ ∙ rw o₁ (put_put out head xs 0 (omega (arith, plan_size))) in
-        let after : 0 + length (head ++ xs) ≡ 2 + length xs = omega (arith, length-append head xs) in
-        let o₃ : out₃ ≡ put_at out 0 ((head ++ xs) ++ ys) =
-        e₃ ∙ rw (o₂, ← after) (put_put out (head ++ xs) ys 0 (omega (arith, length-append head xs, plan_size))) in
-        o₃ ∙ ap (put_at out 0) (append_assoc head xs ys ∙ ap (λ zs. head ++ zs) all_bytes)
+    pub tables_written : (out out₁ out₂ out₃ : List ℕ) (r : Result ℕ Denial) → 1 ≤ length plan.counted + length plan.framed
+        → length (encode plan) ≤ length out → r ≡ unless (option_or (counts_fault m n) (room_fault (length out) 0 2)) 2
+        → out₁ ≡ left r out 0 (header_bytes m n) → out₂ ≡ put_at out₁ 2 xs → out₃ ≡ put_at out₂ (2 + length xs) ys
+        → out₃ ≡ put_at out 0 (encode plan)
+    tables_written out out₁ out₂ out₃ r some room er e₁ e₂ e₃ =
+        plan_written out out₁ out₂ out₃ plan.counted plan.framed m n (2 + length xs) r em en (counted_few t) (framed_few u) some room er e₁
+        (ap (λ zs. 2 + length zs) counted_all) (e₂ ∙ ap (put_at out₁ 2) counted_all) (e₃ ∙ ap (put_at out₂ (2 + length xs)) framed_all)

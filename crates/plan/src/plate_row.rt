@@ -3,7 +3,7 @@ ghost use Rattle.std.specs.Prelude.{◌≡◌, ℕ, ◌+◌, ◌≤◌, List, le
 ghost use Rattle.plate.specs.Plans.{counted_bytes, framed_bytes};
 ghost use Rattle.plate.specs.Writing.{put_at};
 ghost use Rattle.kinds.specs.Rows.{counted_of, framed_of};
-ghost use Rattle.plan.specs.Saved.{counted_short, framed_short};
+ghost use Rattle.plan.specs.Saved.{counted_row_short, framed_row_short};
 
 use denial::Denial;
 use kinds::{Entry, FrameRow, MissCountedRow, TableRow};
@@ -29,7 +29,7 @@ pub(crate) trait PlateRow: TableRow {
 impl PlateRow for MissCountedRow {
     ghost bytes = { λ r. counted_bytes (counted_of r) };
 
-    ghost short = { counted_short };
+    ghost short = { counted_row_short };
 
     fn size(entry: &Entry<Self>) -> usize {
         4 + entry.ranks().len()
@@ -43,7 +43,7 @@ impl PlateRow for MissCountedRow {
 impl PlateRow for FrameRow {
     ghost bytes = { λ r. framed_bytes (framed_of r) };
 
-    ghost short = { framed_short };
+    ghost short = { framed_row_short };
 
     fn size(entry: &Entry<Self>) -> usize {
         2 + 3 * entry.frames().len()

@@ -1,10 +1,10 @@
-use Rattle.std.proofs.Common.{◌≡◌, ◌+◌, length, Ok, sym, ap, ◌∙◌}
+use Rattle.std.proofs.Common.{◌≡◌, ◌+◌, length, Ok, refl, sym, ap, ◌∙◌}
 use Rattle.std.proofs.lemmas.Result.{err_from_is_err_and}
-use Rattle.plate.specs.Plans.{encode, unless, header_bytes}
+use Rattle.plate.specs.Plans.{encode, unless}
 use Rattle.plate.specs.Writing.{left}
 use Rattle.plate.proofs.Trips.{written_is_read}
 use Rattle.plan.specs.Loads.{plan_of}
-use Rattle.plan.specs.Saved.{plan_size, plan_sound, plan_refused, plan_goes, plan_headed, plan_written, no_refusal, same_end}
+use Rattle.plan.specs.Saved.{tables_size, plan_sound, plan_refused, plan_goes, plan_headed, tables_written, no_refusal, same_end}
 use Rattle.plan.proofs.save.save.Goals as goal
 
 pub returns-in_err-check_save-clause-result : goal.returns-in_err-check_save-clause-result
@@ -39,12 +39,13 @@ returns c =
     let head = plan_headed t u _ _ c.len-3.ensures.rows c.len-4.ensures.rows (length out) _ goes.1 goes.2 c.write_header.ensures.result in
     let at = same_end c.in_ok-at.at 2 (sym c.in_ok-at.was ∙ head) in
     let at-2 = same_end c.in_ok-at-2.at (c.in_ok-at.at + _) (sym c.in_ok-at-2.was ∙ c.write_all.ensures.end) in
-    let front = c.write_header.ensures.out ∙ ap (λ r. left r out 0 (header_bytes c.len-3.result c.len-4.result)) head in
     let rows = rw at at c.write_all.ensures.out in
     let rows-2 = rw (at-2, at) at c.write_all-2.ensures.out in
-    let written = plan_written t u _ _ c.len-3.ensures.rows c.len-4.ensures.rows out _ _ _ goes.2 front rows rows-2 in
+    let written =
+    tables_written t u _ _ c.len-3.ensures.rows c.len-4.ensures.rows out _ _ _ _ goes.1 goes.2 c.write_header.ensures.result
+    c.write_header.ensures.out rows rows-2 in
     let end = rw (at-2, at) at c.write_all-2.ensures.end in
-    let done : c.write_all-2.result ≡ Ok (length (encode (plan_of t u))) = end ∙ ap Ok (plan_size t u) in
+    let done : c.write_all-2.result ≡ Ok (length (encode (plan_of t u))) = end ∙ ap Ok (tables_size t u _ _ refl refl) in
     record {
       result = done ∙ ap (λ o. unless o (length (encode (plan_of t u)))) (sym goes.0);
       out = written ∙ ap (λ r. left r out 0 (encode (plan_of t u))) (sym done);
