@@ -26,7 +26,7 @@ fn numbered(place: Option<usize>) -> Option<u16>
     requires { IfSome place (λ i. i < 65536) }
     ensures { result ≡ place }
 {
-    place.map(|i| i as u16)
+    place.and_then(|i| u16::try_from(i).ok())
 }
 
 impl<G: Group> Dispatcher<G> {
