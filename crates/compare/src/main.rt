@@ -2,29 +2,24 @@
 #![tactic(auto)]
 
 use anyhow::{anyhow, bail};
-use kinds::{FrameRow, FrameTable, MissCountedRow, MissCountedTable};
+use kinds::{Entry, FrameRow, FrameTable, MissCountedRow, MissCountedTable, TableRow};
 use plan::load::load;
 use plate::frame::Frame;
 use plate::same::{first_difference, same};
 use std::{env, fmt, fs, io};
 
-// A row, with the number of its task.
+// An entry of a table, with the number of its task.
 #[derive(Drop)]
-struct Task<'a, R> {
+struct Task<'a, R: TableRow> {
     number: usize,
-    row: &'a R,
+    entry: &'a Entry<R>,
 }
 
 impl fmt::Display for Task<'_, MissCountedRow> {
     fn fmt<W: fmt::Write>(&self, f: &mut fmt::Formatter<W>) -> fmt::Result {
-        let MissCountedRow {
-            gap,
-            budget,
-            misses,
-            ranks,
-        } = self.row;
+        let MissCountedRow { gap, budget, .. } = self.entry.row;
         writeln!(f, "task {} miss-counted gap {gap}", self.number)?;
-        for (i, rank) in ranks.iter().take(usize::from(*misses) + 1).enumerate() {
+        for (i, rank) in self.entry.ranks().iter().enumerate() {
             writeln!(f, "  class {} rank {rank} budget {budget}", i + 1)?;
         }
         Ok(())
@@ -33,9 +28,8 @@ impl fmt::Display for Task<'_, MissCountedRow> {
 
 impl fmt::Display for Task<'_, FrameRow> {
     fn fmt<W: fmt::Write>(&self, f: &mut fmt::Formatter<W>) -> fmt::Result {
-        let FrameRow { gap, count, frames } = self.row;
-        writeln!(f, "task {} frames gap {gap}", self.number)?;
-        for (i, frame) in frames.iter().take(usize::from(*count)).enumerate() {
+        writeln!(f, "task {} frames gap {}", self.number, self.entry.row.gap)?;
+        for (i, frame) in self.entry.frames().iter().enumerate() {
             let Frame { budget, rank } = frame;
             writeln!(f, "  frame {} rank {rank} budget {budget}", i + 1)?;
         }
@@ -54,13 +48,11 @@ impl fmt::Display for Rows {
     fn fmt<W: fmt::Write>(&self, f: &mut fmt::Formatter<W>) -> fmt::Result {
         let counted = self.counted.entries();
         for (number, entry) in counted.iter().enumerate() {
-            let row = &entry.row;
-            write!(f, "{}", Task { number, row })?;
+            write!(f, "{}", Task { number, entry })?;
         }
         for (i, entry) in self.frames.entries().iter().enumerate() {
-            let row = &entry.row;
             let number = counted.len().saturating_add(i);
-            write!(f, "{}", Task { number, row })?;
+            write!(f, "{}", Task { number, entry })?;
         }
         Ok(())
     }

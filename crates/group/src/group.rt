@@ -15,6 +15,8 @@ pub trait Group {
     fn count(&self) -> u16
         ensures { result ≡ length (tasks self.now) };
 
+    // A task or class that is not there is answered with 0: so the meaning of a list is total, and the laws need no case.
+
     // The gap of a task; 0 where there is none.
     fn gap(&self, task: u16) -> u16
         ensures { result ≡ (at (tasks self.now) task).gap };

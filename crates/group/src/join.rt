@@ -10,7 +10,7 @@ use crate::meaning::{Outcome, Terms};
 use crate::part::Part;
 
 // How many tasks a group has at most.
-const MOST: u16 = 65535;
+const MOST: u16 = u16::MAX;
 
 // The two groups; each keeps its own positions.
 #[derive(Drop)]

@@ -95,7 +95,7 @@ impl Entry<FrameRow> {
         u32::from(above(rank, frame.rank, frame.budget))
     }
 
-    // The budgets above `rank` of `number` successive frames.
+    // The budgets above `rank` of `number` successive frames. (A `for`: each step goes on from the frame of the step before.)
     fn successive_above(&self, start: u8, number: u8, rank: u8) -> u32
         requires low { 1 ≤ start }
         requires high { start ≤ self.now.row.count }
@@ -111,15 +111,14 @@ impl Entry<FrameRow> {
         sum
     }
 
-    // The largest such sum over all starts. (A `for`, as above: a chain of both would hide the step from one frame to the next.)
+    // The largest such sum over all starts.
     fn largest_above(&self, number: u8, rank: u8) -> u32
         requires few { number ≤ 8 }
         ensures { result ≡ largest self.now.row.count (λ x. successive (row_above self.now.row rank) self.now.row.count x number) }
     {
-        let mut best = 0;
-        for start in 1..=self.row.count {
-            best = self.successive_above(start, number, rank).max(best);
-        }
-        best
+        (1..=self.row.count)
+            .map(|start| self.successive_above(start, number, rank))
+            .max()
+            .unwrap_or(0)
     }
 }

@@ -32,7 +32,8 @@ mod tests {
         }
     }
 
-    // A denial by its number and details; zeros where there is none.
+    // A denial by its number and details; zeros where there is none. The number itself is what is tested, so a denial is turned
+    // into its numbers.
     fn shown(res: Result<(), Denial>) -> (u16, u16, u16) {
         match res {
             Ok(()) => (0, 0, 0),

@@ -16,7 +16,8 @@ mod tests {
         0x10, 0x80, 0x00, 0x40, 0x02, 0x20, 0x0A, 0x28, 0x00, 0x60, 0x03, 0x20, 0x14, 0x1E,
     ];
 
-    // Number, layer and details of a plate's refusal; zeros where it is accepted.
+    // Number, layer and details of a plate's refusal; zeros where it is accepted. The number itself is what is tested, so a denial
+    // is turned into its numbers.
     fn refusal(plate: &[u8]) -> (u16, u16, u16, u16) {
         match accept(plate) {
             Ok(_) => (0, 0, 0, 0),
