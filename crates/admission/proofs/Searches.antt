@@ -1,7 +1,7 @@
 -- What the chains over a task's classes and a group's tasks find.
-use Rattle.std.proofs.Common.{◌≡◌, ℕ, zero, suc, ◌+◌, ◌-◌, ◌<◌, ◌≤◌, min, Bool, true, false, cond, ◌&&◌, ◌||◌, nat_lt, List, [], ◌∷◌, ◌++◌, map, Some, None, Option, MatchOption, sym, refl, ap, ◌∙◌, subst, inl, inr, arith}
+use Rattle.std.proofs.Common.{◌≡◌, ℕ, zero, suc, ◌+◌, ◌<◌, ◌≤◌, min, Bool, true, false, cond, ◌&&◌, ◌||◌, nat_lt, List, [], ◌∷◌, ◌++◌, Some, None, Option, MatchOption, sym, refl, ap, ◌∙◌, subst, inl, inr, arith}
 use Rattle.std.specs.Bool.{then_some}
-use Rattle.std.specs.Option.{option_or, option_map, SomeIff}
+use Rattle.std.specs.Option.{option_or, option_map}
 use Rattle.std.specs.List.{range_with_len, find, fold, reduce, filter_map, cons_option}
 use Rattle.std.proofs.lemmas.Bool.{cases_lt, ltb-false, le-ltb, and_from, or_left, or_right, or_from, and_left, and_right}
 use Rattle.std.proofs.lemmas.List.Folds.{find-append}
@@ -9,7 +9,7 @@ use Rattle.find.specs.First.{first, Searched}
 use Rattle.find.proofs.Firsts.{first_says, first_is}
 use Rattle.group.specs.declared.meaning.Terms.{Terms}
 use Rattle.group.specs.Task.{Task, at}
-use Rattle.admission.specs.Start.{uses, share, mark_of}
+use Rattle.admission.specs.Start.{uses, share}
 
 -- one number more
 range_more : (a n : ℕ) → range_with_len a (suc n) ≡ range_with_len a n ++ ((a + n) ∷ [])

@@ -1,50 +1,12 @@
 -- What the chains over a task's classes and a group's tasks give.
-use Rattle.std.proofs.Common.{◌≡◌, ℕ, zero, suc, ◌+◌, ◌-◌, max, Bool, true, false, cond, ◌⊎◌, List, [], ◌∷◌, map, length, nat_le, Some, None, unwrap_or, sym, refl, ap, ◌∙◌, subst, inl, inr, add-one, arith}
-use Rattle.std.specs.declared.ops.RangeInclusive.{RangeInclusive}
-use Rattle.std.specs.Range.{range_inclusive_start, range_inclusive_end, range_inclusive_exhausted, range_inclusive_len}
+use Rattle.std.proofs.Common.{◌≡◌, ℕ, zero, suc, ◌+◌, max, Bool, true, false, cond, List, [], ◌∷◌, map, length, nat_le, unwrap_or, sym, refl, ap, ◌∙◌, add-one, arith}
 use Rattle.std.specs.List.{range_with_len, filter, fold, reduce, sum as list_sum}
-use Rattle.std.proofs.iter.runs.Sources.{nat_range_inclusive_steps}
-use Rattle.std.proofs.lemmas.Iterator.{YieldsList}
-use Rattle.std.proofs.lemmas.Iterator.Consumers.{YieldsList-from_shown}
-use Rattle.std.proofs.lemmas.List.FromFn.{fill_by_all, length-range_with_len, sum_by-map-range_with_len_more}
+use Rattle.std.proofs.lemmas.List.FromFn.{fill_by_all, sum_by-map-range_with_len_more}
 use Rattle.group.specs.declared.meaning.Terms.{Terms}
 use Rattle.group.specs.Task.{Task, terms_of, no_terms}
+use Rattle.group.specs.Ranges.{max_found}
 use Rattle.bounds.specs.Bound.{largest, sum}
 use Rattle.bounds.proofs.Grows.{terms_next}
-
--- what `1..=n` gives
-pub YieldsList-from_inclusive : {s : RangeInclusive ℕ} (n : ℕ) → range_inclusive_start s ≡ 1 → range_inclusive_end s ≡ n → range_inclusive_exhausted s ≡ false
-    → YieldsList nat_range_inclusive_steps (λ x. x) s (range_with_len 1 n)
-YieldsList-from_inclusive {s} n a b e =
-    subst (YieldsList nat_range_inclusive_steps (λ x. x) s) whole (YieldsList-from_shown nat_range_inclusive_steps (λ x. x) shown none some s)
-  where
-    left : RangeInclusive ℕ → ℕ
-    left s = range_inclusive_len (λ x y. y - x) (range_inclusive_start s) (range_inclusive_end s) (range_inclusive_exhausted s)
-
-    shown : RangeInclusive ℕ → List ℕ
-    shown s = range_with_len (range_inclusive_start s) (left s)
-
-    whole : shown s ≡ range_with_len 1 n
-    whole =
-        let l : left s ≡ n = omega (arith, ap (range_inclusive_len (λ x y. y - x) (range_inclusive_start s) (range_inclusive_end s)) e, a, b) in
-        ap (λ k. range_with_len k (left s)) a ∙ ap (range_with_len 1) l
-
-    none : (s t : RangeInclusive ℕ) → nat_range_inclusive_steps s None t → length (shown s) ≡ 0
-    none s t h = omega (arith, length-range_with_len (range_inclusive_start s) (left s), h.1.0)
-
-    step : (x a c m k : ℕ) → x ≡ a → k + 1 ≡ m → (k ≡ 0) ⊎ (c ≡ a + 1) → range_with_len a m ≡ x ∷ range_with_len c k
-    step x a c zero k p q r = absurd (omega arith)
-    step x a c (suc zero) zero p q r = ap (λ y. y ∷ []) (sym p)
-    step x a c (suc (suc m)) zero p q r = absurd (omega arith)
-    step x a c (suc m) (suc k) p q (inl r) = absurd (omega arith)
-    step x a c (suc m) (suc k) p q (inr r) = let e : m ≡ suc k = omega arith in cc
-
-    some : (s : RangeInclusive ℕ) (x : ℕ) (t : RangeInclusive ℕ) → nat_range_inclusive_steps s (Some x) t → shown s ≡ x ∷ shown t
-    some s x t h = step x (range_inclusive_start s) (range_inclusive_start t) (left s) (left t) h.1.0 h.1.1 (at_spent (range_inclusive_exhausted t) refl)
-      where
-        at_spent : (b : Bool) → range_inclusive_exhausted t ≡ b → (left t ≡ 0) ⊎ (range_inclusive_start t ≡ range_inclusive_start s + 1)
-        at_spent true e = inl (ap (range_inclusive_len (λ x y. y - x) (range_inclusive_start t) (range_inclusive_end t)) e)
-        at_spent false e = inr (h.1.2 e)
 
 -- the terms of all classes, from 1 on
 pub terms_listed : (t : Task) → map (terms_of t) (range_with_len 1 (length t.classes)) ≡ t.classes
@@ -77,11 +39,7 @@ largest_folded p (c ∷ cs) = at_test (nat_le p c.rank) (largest_folded p cs)
 
 -- the largest of them, as the chain finds it
 pub largest_found : (p : ℕ) (cs : List Terms) → unwrap_or (reduce max (budgets p cs)) 0 ≡ largest p cs
-largest_found p cs = at_kept (budgets p cs) ∙ largest_folded p cs
-  where
-    at_kept : (xs : List ℕ) → unwrap_or (reduce max xs) 0 ≡ fold max 0 xs
-    at_kept [] = refl
-    at_kept (x ∷ xs) = let e : max 0 x ≡ x = omega arith in ap (λ y. fold max y xs) (sym e)
+largest_found p cs = max_found (budgets p cs) ∙ largest_folded p cs
 
 -- the sum over the tasks from 0 on, as the chain adds it
 pub sum_listed : (n : ℕ) (f : ℕ → ℕ) → list_sum (map f (range_with_len 0 n)) ≡ sum n f

@@ -5,7 +5,8 @@ use Rattle.std.proofs.lemmas.Iterator.Adapters.{option_map_id}
 use Rattle.std.proofs.lemmas.Iterator.Consumers.{YieldsList-at, YieldsList-from_filter, max_from_yields_List}
 use borrow.Author.Tests.{tests}
 use Rattle.group.specs.Task.{at, terms_of}
-use Rattle.bounds.proofs.Chains.{YieldsList-from_inclusive, terms_listed, budgets, largest_found}
+use Rattle.group.specs.Ranges.{YieldsList-from_inclusive}
+use Rattle.bounds.proofs.Chains.{terms_listed, budgets, largest_found}
 use Rattle.bounds.proofs.job.largest_budget.Goals as goal
 
 pub returns : goal.returns

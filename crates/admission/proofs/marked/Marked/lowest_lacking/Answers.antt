@@ -3,7 +3,7 @@ use Rattle.std.proofs.lemmas.Iterator.Adapters.{option_map_id}
 use Rattle.std.proofs.lemmas.Iterator.Search.{find_from_yields_List}
 use borrow.Author.Tests.{tests}
 use Rattle.group.specs.Task.{at}
-use Rattle.bounds.proofs.Chains.{YieldsList-from_inclusive}
+use Rattle.group.specs.Ranges.{YieldsList-from_inclusive}
 use Rattle.admission.specs.Start.{lacking}
 use Rattle.admission.proofs.Searches.{find_listed}
 use Rattle.admission.proofs.marked.Marked.lowest_lacking.Goals as goal

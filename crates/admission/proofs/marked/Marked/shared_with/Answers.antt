@@ -8,7 +8,8 @@ use Rattle.std.proofs.lemmas.Iterator.Consumers.{YieldsList-at, YieldsList-from_
 use Rattle.find.specs.First.{first}
 use Rattle.group.specs.declared.meaning.Terms.{Terms}
 use Rattle.group.specs.Task.{at, terms_of}
-use Rattle.bounds.proofs.Chains.{YieldsList-from_inclusive, terms_listed}
+use Rattle.group.specs.Ranges.{YieldsList-from_inclusive}
+use Rattle.bounds.proofs.Chains.{terms_listed}
 use Rattle.admission.specs.Start.{uses, share}
 use Rattle.admission.proofs.Pairs.{with}
 use Rattle.admission.proofs.Searches.{sharer_found, first_below}

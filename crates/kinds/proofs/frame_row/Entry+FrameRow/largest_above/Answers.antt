@@ -4,7 +4,8 @@ use Rattle.std.proofs.lemmas.Iterator.Adapters.{option_map_id}
 use Rattle.std.proofs.lemmas.Iterator.Consumers.{YieldsList-at, max_from_yields_List}
 use Rattle.kinds.specs.Cycle.{successive}
 use Rattle.kinds.specs.Rows.{row_above}
-use Rattle.kinds.proofs.Chains.{YieldsList-from_inclusive, largest_found}
+use Rattle.group.specs.Ranges.{YieldsList-from_inclusive}
+use Rattle.kinds.proofs.Chains.{largest_found}
 use Rattle.kinds.proofs.frame_row.Entry+FrameRow.largest_above.Goals as goal
 
 pub returns : goal.returns
