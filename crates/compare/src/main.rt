@@ -15,6 +15,7 @@ struct Task<'a, R: TableRow> {
     entry: &'a Entry<R>,
 }
 
+// One for each kind of row: they have other fields, and other words.
 impl fmt::Display for Task<'_, MissCountedRow> {
     fn fmt<W: fmt::Write>(&self, f: &mut fmt::Formatter<W>) -> fmt::Result {
         let MissCountedRow { gap, budget, .. } = self.entry.row;

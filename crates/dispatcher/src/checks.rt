@@ -21,7 +21,7 @@ pub(crate) fn check_started(started: bool, count: u16) -> Result<(), Denial>
     }
 }
 
-// There is no task of that number.
+// There is no task of that number. (Without a look at the count, unlike `bounds::check_task`: that is refused by 14 before.)
 pub(crate) fn check_number(count: u16, task: u16) -> Result<(), Denial>
     ensures { result ≡ unless (no_task_fault count task) tt }
 {

@@ -10,7 +10,7 @@ use crate::turn::{Tick, Turn};
 use group::Outcome;
 
 impl Way {
-    // What the end is to the slot: a miss counts as an expiry.
+    // What the end is to the slot: a miss counts as an expiry. (No `From`, since it takes `tolerated` too.)
     fn event(self, tolerated: bool) -> Event
         ensures event { result ≡ event_of self tolerated }
         ensures quiet { (slot : Slot) → counted_to result slot ≡ 0 }

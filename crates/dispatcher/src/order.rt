@@ -21,7 +21,7 @@ pub struct ByExpiry {
     pub task: u16,
 }
 
-// A place in the table, as a task number.
+// A place in the table, as a task number. (No `From`: it narrows.)
 fn numbered(place: Option<usize>) -> Option<u16>
     requires { IfSome place (λ i. i < 65536) }
     ensures { result ≡ place }
@@ -29,6 +29,7 @@ fn numbered(place: Option<usize>) -> Option<u16>
     place.and_then(|i| u16::try_from(i).ok())
 }
 
+// The keys go to `foremost` as an array, since that is a public call over a slice, and the memory is fixed.
 impl<G: Group> Dispatcher<G> {
     // The rank of a task's pending job; the higher goes ahead.
     fn rank(&self, task: u16) -> Option<Reverse<u8>>

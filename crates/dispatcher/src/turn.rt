@@ -12,7 +12,7 @@ pub struct Tick {
     ghost goes_on: { clock < 4294967295 },
 }
 
-// One task's turn in a tick: whether it is the one that runs, its gap, and the terms of its job's class.
+// One task's turn in a tick: whether it is the one that runs (asked of the tick once, so that a turn needs no task number), its gap, and the terms of its job's class.
 #[derive(Clone, Copy)]
 pub struct Turn {
     pub(crate) tick: Tick,

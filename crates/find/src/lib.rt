@@ -4,8 +4,7 @@
 ghost use Rattle.std.specs.Prelude.{◌≡◌, ℕ, ◌<◌, Bool, IfSome};
 ghost use Rattle.find.specs.First.{first, Agrees, Searched};
 
-// The first index below `count` that passes. (A `for`: with `find` of the range, the proof that
-// `passes` may be called did not close.)
+// The first index below `count` that passes.
 pub fn first_of<F: Fn(usize) -> bool>(count: usize, passes: F) -> Option<usize>
     requires { (i : ℕ) → i < count → F.pre passes i }
     ensures within { IfSome result (λ i. i < count) }

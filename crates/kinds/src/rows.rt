@@ -1,5 +1,5 @@
 // The rows of the two tables, as they are handed in. A row's array has room for eight classes; what is past its own means nothing.
-// Array and number stay two fields: a row is `Copy`, and an `ArrayVec` is not.
+// Two types, since their fields and what they mean differ; what they share is `TableRow`. Array and number stay two fields: a row is `Copy`, and an `ArrayVec` is not.
 use plate::frame::Frame;
 
 // One miss-counted task: `misses` tolerated misses, one budget, and the ranks of its `misses + 1` classes.

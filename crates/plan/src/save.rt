@@ -23,7 +23,7 @@ fn size_of<R: PlateRow>(table: &Table<R>) -> usize
     size
 }
 
-// Writes all rows of a table one after another, and gives the byte after the last.
+// Writes all rows of a table one after another, and gives the byte after the last. (A `for`: each row begins where the last one ended.)
 fn write_all<R: PlateRow>(table: &Table<R>, out: &mut [u8], at: usize) -> Result<usize, Denial>
     requires { at + length (bytes_of R.PlateRow.bytes table.now) ≤ length out.old }
     ensures end { result ≡ Ok (at + length (bytes_of R.PlateRow.bytes table.now)) }

@@ -43,6 +43,7 @@ mod tests {
         let mut counted = MissCountedTable::new();
         let mut frames = FrameTable::new();
         let mut out = [9; 20];
+        // The numbers themselves are what is tested, here and below.
         match save(&counted, &frames, &mut out) {
             Ok(_) => return Err(Fail::new("nothing to save")),
             Err(d) => assert_eq!(rt; (d.number(), d.first, d.second), (3, 255, 4)),
@@ -61,7 +62,8 @@ mod tests {
         Ok(())
     }
 
-    // A plate of 16 rows of each kind, with eight classes each: 610 bytes.
+    // A plate of 16 rows of each kind, with eight classes each: 610 bytes. (The crate of plate's tests has the same: the two have no crate
+    // of tests below them, and a library is no place for it.)
     fn largest(out: &mut [u8]) -> Result<usize, Denial> {
         let ranks = [1, 1, 2, 3, 5, 8, 13, 255];
         let frames = [Frame {

@@ -44,7 +44,7 @@ fn spare(bytes: &[u8], i: usize) -> u16
     cursor.field(4)
 }
 
-// The first frame whose spare bits are not zero.
+// The first frame whose spare bits are not zero. (At most 24 bytes: three private functions ask it, a type would be made for one call.)
 pub(crate) fn first_spare(bytes: &[u8]) -> Option<usize>
     requires { length bytes.now ≤ 24 }
     ensures within { IfSome result (λ i. i < length bytes.now / 3) }

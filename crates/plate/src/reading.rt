@@ -69,7 +69,7 @@ impl<'a> Position<'a> {
         header(self.cursor.plate)
     }
 
-    // After a row, with so many of each kind to come.
+    // After a row, with so many of each kind to come. (Two numbers: `Counts` is what a caller is told, and the position holds them.)
     fn past(self, cursor: Cursor<'a>, counted: u8, framed: u8) -> Self
         requires { Kept (record { place = cursor.place; row = self.row + 1; counted = counted; framed = framed }) }
         ensures plate { plate_at result ≡ cursor.entry.plate.now }

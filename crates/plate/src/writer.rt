@@ -16,7 +16,7 @@ use denial::{Denial, check_room};
 // The fixed bytes of a header and of the two kinds of row differ in their layout, so each has a function; `write_row` puts any of
 // them in. The public writers take a row by its numbers, and the caller's buffer with a place: their signatures stay.
 
-// The two bytes of a header.
+// The two bytes of a header. (Two numbers, as the public call takes them.)
 fn header_front(counted: u8, framed: u8) -> [u8; 2]
     requires { (counted ≤ 16) × (framed ≤ 16) }
     ensures { result ≡ header_bytes counted framed }

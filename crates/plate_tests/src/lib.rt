@@ -131,7 +131,8 @@ mod tests {
         Ok(())
     }
 
-    // A plate of 16 miss-counted rows of eight classes and 16 frame rows of eight frames: 610 bytes.
+    // A plate of 16 miss-counted rows of eight classes and 16 frame rows of eight frames: 610 bytes. (The crate of plan's tests has the
+    // same: the two have no crate of tests below them.)
     fn largest(out: &mut [u8]) -> Result<usize, Denial> {
         let ranks = [1, 1, 2, 3, 5, 8, 13, 255];
         let frames = [Frame {
