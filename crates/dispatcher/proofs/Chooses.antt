@@ -39,7 +39,7 @@ module _ {F B : Type 0} (g : Mut F (ℕ × Unit {0}) B) (h : ℕ → B) (f : F) 
   made ys n j d m l = made_from ys 0 n j d m.each (omega arith) (omega arith)
 
 -- the foremost of 64 keys is the foremost of the tasks
-keys_foremost : {K : Type 0} (R : K → K → Ordering) (key : ℕ → Option K) (n : ℕ) (keys : List (Option K)) (there : ℕ → Bool) (before : ℕ → ℕ → Bool)
+pub keys_foremost : {K : Type 0} (R : K → K → Ordering) (key : ℕ → Option K) (n : ℕ) (keys : List (Option K)) (there : ℕ → Bool) (before : ℕ → ℕ → Bool)
     → length keys ≡ 64 → ((i : ℕ) → i < 64 → get_or keys i None ≡ key i) → ((i : ℕ) → is_some (key i) ≡ there i)
     → ((i : ℕ) → n ≤ i → there i ≡ false) → ((i : ℕ) → 64 ≤ i → there i ≡ false)
     → ((i j : ℕ) → j < i → there i ≡ true → there j ≡ true → key_ahead (lesser R) (key i) (key j) ≡ before i j)
