@@ -62,33 +62,40 @@ module _ (ts : List Task) (clock : ℕ) (started : Bool) (places : List ℕ) (se
   resume_known k e = task_known k _ e
 
   -- what it leaves: the task's seat is set
-  seat_left : (k : ℕ) (third : Option Denial) (seat : Seat) → length seats ≡ 64
-      → option_or (unstarted_fault started (length ts)) (option_or (no_task_fault (length ts) k) third) ≡ None
+  seat_left : (k : ℕ) (seat : Seat) → k < length ts → k < length seats
       → state_of clock started places (set seats k seat) ≡ record { clock = clock; started = started; standings = set (seated places seats) k (stands (place places k) seat) }
-  seat_left k third seat sized e =
-      let h = task_known k third e in
-      ap (λ x. record { clock = clock; started = started; standings = x }) (seated_set places seats k seat (omega (arith, h.0)) (omega (arith, h.0, h.1, sized)))
+  seat_left k seat l m = ap (λ x. record { clock = clock; started = started; standings = x }) (seated_set places seats k seat (omega arith) m)
 
-  -- by a release, and by a resume
-  pub release_left : (k : ℕ) (seats' : List Seat) → length seats ≡ 64 → release_fault ts (state_of clock started places seats) k ≡ None
+  pub release_left : (k : ℕ) → k < length ts → k < length seats
+      → state_of clock started places (set seats k (release_seat ((at ts k).class_at (place places k)) clock (get_or seats k new_seat))) ≡ released ts k (state_of clock started places seats)
+  release_left k l m =
+      seat_left k (release_seat ((at ts k).class_at (place places k)) clock (get_or seats k new_seat)) l m
+      ∙ ap (λ x. record { clock = clock; started = started; standings = set (seated places seats) k (release_one (at ts k) clock x) }) (sym (standing_is k l))
+
+  pub resume_left : (k : ℕ) → k < length ts → k < length seats
+      → state_of clock started places (set seats k (resume_seat (get_or seats k new_seat))) ≡ resumed k (state_of clock started places seats)
+  resume_left k l m =
+      seat_left k (resume_seat (get_or seats k new_seat)) l m
+      ∙ ap (λ x. record { clock = clock; started = started; standings = set (seated places seats) k (resume_one x) }) (sym (standing_is k l))
+
+  -- so a release that is not refused leaves what its definition says, and so does a resume
+  pub release_kept : (k : ℕ) (seats' : List Seat) → length seats ≡ 64 → release_fault ts (state_of clock started places seats) k ≡ None
       → seats' ≡ set seats k (release_seat ((at ts k).class_at (place places k)) clock (get_or seats k new_seat))
       → state_of clock started places seats'
       ≡ kept_if (release_fault ts (state_of clock started places seats) k) (state_of clock started places seats) (released ts k (state_of clock started places seats))
-  release_left k seats' sized f e =
+  release_kept k seats' sized f e =
       let s = state_of clock started places seats in
-      ap (state_of clock started places) e ∙ seat_left k _ (release_seat ((at ts k).class_at (place places k)) clock (get_or seats k new_seat)) sized f
-      ∙ ap (λ x. record { clock = clock; started = started; standings = set (seated places seats) k (release_one (at ts k) clock x) }) (sym (standing_is k (task_known k _ f).0))
-      ∙ sym (ap (λ x. kept_if x s (released ts k s)) f)
+      let h = release_known k f in
+      ap (state_of clock started places) e ∙ release_left k h.0 (omega (arith, h.0, h.1, sized)) ∙ sym (ap (λ x. kept_if x s (released ts k s)) f)
 
-  pub resume_left : (k : ℕ) (seats' : List Seat) → length seats ≡ 64 → resume_fault ts (state_of clock started places seats) k ≡ None
+  pub resume_kept : (k : ℕ) (seats' : List Seat) → length seats ≡ 64 → resume_fault ts (state_of clock started places seats) k ≡ None
       → seats' ≡ set seats k (resume_seat (get_or seats k new_seat))
       → state_of clock started places seats'
       ≡ kept_if (resume_fault ts (state_of clock started places seats) k) (state_of clock started places seats) (resumed k (state_of clock started places seats))
-  resume_left k seats' sized f e =
+  resume_kept k seats' sized f e =
       let s = state_of clock started places seats in
-      ap (state_of clock started places) e ∙ seat_left k _ (resume_seat (get_or seats k new_seat)) sized f
-      ∙ ap (λ x. record { clock = clock; started = started; standings = set (seated places seats) k (resume_one x) }) (sym (standing_is k (task_known k _ f).0))
-      ∙ sym (ap (λ x. kept_if x s (resumed k s)) f)
+      let h = resume_known k f in
+      ap (state_of clock started places) e ∙ resume_left k h.0 (omega (arith, h.0, h.1, sized)) ∙ sym (ap (λ x. kept_if x s (resumed k s)) f)
 
   -- the view of a task's slot
   pub seen_is : (k : ℕ) → k < length ts → (slot : Slot) → slot ≡ (get_or seats k new_seat).slot → slot ≡ slot_of (state_of clock started places seats) k
