@@ -13,7 +13,7 @@ use Rattle.kinds.specs.declared.entry.Entry.{Entry}
 use Rattle.kinds.specs.declared.table.Table.{Table}
 use Rattle.kinds.specs.declared.table_row.TableRow.{Ghosts}
 use Rattle.kinds.specs.Demands.{Asked}
-use Rattle.kinds.specs.Tables.{Keeps, Placed, add_fault}
+use Rattle.kinds.specs.Tables.{Keeps, Placed, add_fault, Grown}
 use Rattle.kinds.specs.Held.{meant, rows_of, tasks_of, places_of, Held, HeldEntry, Absent, Added}
 
 same_or_below : (i n : ℕ) → i < n + 1 → (i ≡ n) ⊎ (i < n)
@@ -25,6 +25,10 @@ module _ {R : Type 0} {g : Ghosts R} where
   entry_at [] i l = absurd (not-suc-le-zero l)
   entry_at (e ∷ es) zero l = (e, refl)
   entry_at (e ∷ es) (suc i) l = entry_at es i (omega arith)
+
+  rows_told : (es : List (Entry R g)) → map g.kind.says (map (λ e. e.row) es) ≡ map (λ e. g.kind.says e.row) es
+  rows_told [] = refl
+  rows_told (e ∷ es) = ap (λ xs. g.kind.says e.row ∷ xs) (rows_told es)
 
   -- what holds of each entry holds of each task and its position
   pub each : (P : Task → ℕ → Type 0) → ((e : Entry R g) → P (meant g e.row) e.place) → (es : List (Entry R g)) (i : ℕ) →
@@ -219,6 +223,19 @@ module _ {R : Type 0} {g : Ghosts R} where
                   get_or_append_left (places_of t) (1 ∷ []) 0 i (omega (arith, places_length)),
                 ) (placed i m)
           ]
+
+      pub row_found : (i : ℕ) (o : Option (Bor R)) →
+          MatchOption o (length t.entries.items ≤ i) (λ q. (i < length t.entries.items) × (q.now ≡ slice_index_or rows i d)) →
+          MatchOption o (Absent t i) (λ q. Held t i q.now)
+      row_found i None h = missing i h
+      row_found i (Some q) h = subst (Held t i) (sym h.1) (found i h.0)
+
+      pub row_grown : (r : R) →
+          Grown g.kind.task (g.kind.says r) (rows_of t) (map g.kind.says (rows ++ (r ∷ []))) (places_of t) (places_of t ++ (1 ∷ []))
+      row_grown r =
+          let more : map g.kind.says (rows ++ (r ∷ [])) ≡ rows_of t ++ (g.kind.says r ∷ []) =
+          map_push g.kind.says rows r ∙ ap (λ xs. xs ++ (g.kind.says r ∷ [])) (rows_told t.entries.items) in
+          record { listed = more; tasks = ap (map g.kind.task) more ∙ map_push g.kind.task (rows_of t) (g.kind.says r); placed = refl }
 
     -- what was found at place i
     pub looked_up : (i : ℕ) (o : Option (Bor (Entry R g))) →

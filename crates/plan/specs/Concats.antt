@@ -6,6 +6,13 @@ use Rattle.std.proofs.lemmas.List.{length-append, take_all}
 use Rattle.plate.specs.Writing.{put_at}
 use Rattle.plate.proofs.Puts.{joined_more, put_put}
 use Rattle.plan.specs.Saves.{concat}
+use Rattle.std.specs.Prelude.{Ok, Result}
+use Rattle.std.specs.Option.{option_or}
+use Rattle.denial.specs.declared.Denial.{Denial}
+use Rattle.plate.specs.Rows.{Counted, Framed}
+use Rattle.plate.specs.Plans.{unless, counts_fault, header_bytes, counted_bytes, framed_bytes, encode}
+use Rattle.plate.specs.Writing.{left, room_fault}
+use Rattle.plan.specs.Saved
 
 -- one more
 pub concat_more : (xss : List (List ℕ)) (i : ℕ) → i < length xss → concat (take (i + 1) xss) ≡ concat (take i xss) ++ slice_index_or xss i []
@@ -38,3 +45,18 @@ pub put_more : (bs out out' : List ℕ) (xss : List (List ℕ)) (at i end : ℕ)
 put_more bs out out' xss at i end l room e o w =
     let front = concat_front xss i in
     w ∙ rw (o, e) (put_put bs (concat (take i xss)) (slice_index_or xss i []) at (omega arith)) ∙ ap (put_at bs at) (sym (concat_more xss i l))
+
+pub plan_size : (cs : List Counted) (fs : List Framed) (x y : ℕ) → x ≡ length (concat (map counted_bytes cs)) → y ≡ length (concat (map framed_bytes fs))
+    → 2 + x + y ≡ length (encode (record { counted = cs; framed = fs }))
+plan_size cs fs x y e f = Saved.plan_size cs fs x y (e ∙ ap length (concat_map counted_bytes cs)) (f ∙ ap length (concat_map framed_bytes fs))
+
+pub plan_written : (out out₁ out₂ out₃ : List ℕ) (cs : List Counted) (fs : List Framed) (m n at : ℕ) (r : Result ℕ Denial)
+    → m ≡ length cs → n ≡ length fs → length cs ≤ 16 → length fs ≤ 16 → 1 ≤ length cs + length fs
+    → length (encode (record { counted = cs; framed = fs })) ≤ length out
+    → r ≡ unless (option_or (counts_fault m n) (room_fault (length out) 0 2)) 2 → out₁ ≡ left r out 0 (header_bytes m n)
+    → at ≡ 2 + length (concat (map counted_bytes cs)) → out₂ ≡ put_at out₁ 2 (concat (map counted_bytes cs))
+    → out₃ ≡ put_at out₂ at (concat (map framed_bytes fs))
+    → out₃ ≡ put_at out 0 (encode (record { counted = cs; framed = fs }))
+plan_written out out₁ out₂ out₃ cs fs m n at r em en hm hn h room er e₁ ea e₂ e₃ =
+    Saved.plan_written out out₁ out₂ out₃ cs fs m n at r em en hm hn h room er e₁ (ea ∙ ap (λ xs. 2 + length xs) (concat_map counted_bytes cs))
+    (e₂ ∙ ap (put_at out₁ 2) (concat_map counted_bytes cs)) (e₃ ∙ ap (put_at out₂ at) (concat_map framed_bytes fs))
