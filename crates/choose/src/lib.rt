@@ -28,7 +28,7 @@ pub fn foremost<K: Ord + Copy>(keys: &[Option<K>]) -> Option<usize>
     ensures place { result ≡ foremost (λ i. is_some (slice_index_or keys.now i None)) (goes_ahead (λ x y. is_lt (K.Ord.cmp x y)) keys.now) (length keys.now) }
     ensures law { IsForemost (λ i. is_some (slice_index_or keys.now i None)) (goes_ahead (λ x y. is_lt (K.Ord.cmp x y)) keys.now) (length keys.now) result }
 {
-    // A `for` and no `min_by_key`: the chain was tried, and a tick took twice the time.
+    // A `for` and no `min_by_key`: with the chain the choice of a few keys took twice the time.
     let mut best = None;
     for (place, key) in keys.iter().enumerate() {
         best = look(best, place, *key);

@@ -54,8 +54,8 @@ impl<G: Group> Dispatcher<G> {
         }
     }
 
-    // The ranks of all pending jobs. (Only of the tasks that there are, and the group is asked for their number once: keys made for all
-    // seats by `from_fn` were tried, and a tick took twice the time.)
+    // The ranks of all pending jobs. (Of the tasks that there are, and the group is asked for their number once. Keys of all seats by
+    // `from_fn` were tried: for a few tasks that took twice the time.)
     fn ranks(&self) -> [Option<Reverse<u8>>; SEATS]
         ensures { KeysOf (λ i. rank_key (at (G.tasks self.now.group) i) (slice_index_or self.now.table.seats i new_seat).slot)
             (length (G.tasks self.now.group)) result }
