@@ -16,7 +16,7 @@ push_str-requires c =
     let front = rw c.requires at c.put_front-started.ensures.text in
     let verdict = ap length (c.as_str.ensures.value ∙ c.verdict.ensures) in
     let whole = ap length (by_parts bs c.put_front-started.result c.put_front-started.ensures.result) in
-    let h : length (sheet_text bs) ≤ length (front_of (decode bs)) + 26 = omega (arith, length-append {A = ℕ}, c.as_str.ensures.fits) in
+    let h : length (sheet_text bs) ≤ length (front_of (decode bs)) + 38 = omega (arith, length-append {A = ℕ}, c.as_str.ensures.fits) in
     omega (arith, short bs bytes h, ap length front, length-append {A = ℕ})
 
 pub returns-clause-text : goal.returns-clause-text
