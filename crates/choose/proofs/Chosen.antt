@@ -1,12 +1,18 @@
 -- The search for the foremost finds it, place by place.
-use Rattle.std.proofs.Common.{◌≡◌, ℕ, zero, suc, ◌+◌, ◌<◌, ◌≤◌, Bool, true, false, cond, ◌⊎◌, List, length, get_or, is_some, IfSome, Some, None, Option, sym, refl, ap, ◌∙◌, inl, inr, add-one, arith, MatchOption}
+use Rattle.std.proofs.Common.{◌≡◌, ℕ, zero, suc, ◌+◌, ◌<◌, ◌≤◌, Bool, true, false, cond, ◌⊎◌, List, [], ◌∷◌, length, get_or, is_some, IfSome, Some, None, Option, sym, refl, ap, ◌∙◌, inl, inr, add-one, add-zero, arith, MatchOption}
 use Rattle.std.specs.Option.{option_map}
 use Rattle.std.specs.Cmp.{IsTotalOrder, upto}
+use Rattle.std.specs.Fn.{CalledAt}
+use Rattle.std.specs.Iterator.{Drains, KeyTurn, PicksMinByKey}
+use Rattle.std.specs.Iterator.Runs.{Run, EachRunFrom}
+use Rattle.std.specs.List.{FoldsTo, filter_map, enumerate_from, fold, reduce}
 use Rattle.std.specs.declared.cmp.Ordering.{Ordering}
 use Rattle.std.specs.declared.cmp.Ordering.TheVariants.{Less, Equal, Greater}
-use Rattle.std.specs.Ordering.{is_lt, is_gt, ordering_reverse}
+use Rattle.std.specs.Ordering.{is_lt, is_gt, ordering_reverse, min_by_ordering}
 use Rattle.std.proofs.lemmas.Bool.{both_ways}
 use Rattle.choose.specs.Foremost.{foremost, chosen, key_ahead, goes_ahead, better, IsForemost, IsLowest, Orders}
+use denote.Param.Members.{Mut}
+use denote.Ref.{Bor}
 
 -- is there a key at i?
 abbrev pub present : {K : Type 0} → List (Option K) → ℕ → Bool
@@ -15,6 +21,48 @@ present keys i = is_some (get_or keys i None)
 -- does the first key go ahead of the second?
 abbrev pub lesser : {K : Type 0} → (K → K → Ordering) → K → K → Bool
 lesser R x y = is_lt (R x y)
+
+-- the entry at a place, as a pair with its place
+abbrev pub paired : {K : Type 0} → ℕ × Option K → Option (ℕ × K)
+paired p = option_map (λ k. (p.0, k)) p.1
+
+-- the pair with the lesser key, of two level ones the first
+abbrev pub least_pair : {K : Type 0} → (K → K → Ordering) → ℕ × K → ℕ × K → ℕ × K
+least_pair R p q = min_by_ordering (R p.1 q.1) p q
+
+-- its key is the lesser of the two
+key_of : {K : Type 0} (o : Ordering) (p q : ℕ × K) → min_by_ordering o p.1 q.1 ≡ (min_by_ordering o p q).1
+key_of Less p q = refl
+key_of Equal p q = refl
+key_of Greater p q = refl
+
+-- What `min_by_key` does with pairs, by a function that reads the key of each: from the first pair on it keeps the lesser one.
+module _ {K F : Type 0} (R : K → K → Ordering) (g : Mut F (Bor (ℕ × K) × Unit {0}) K) (f : F)
+    (reads : (x : ℕ × K) (k : K) (q : F) → CalledAt g f x k q → (q ≡ f) × (k ≡ x.1)) where
+  turns : (p : ℕ × K) (xs : List (ℕ × K)) (q : F × K) (y : ℕ × K) → FoldsTo {P = (F × K) × (ℕ × K)} (KeyTurn min_by_ordering min_by_ordering g R) ((f, p.1), p) xs (q, y)
+      → FoldsTo (λ b z c. c ≡ least_pair R b z) p xs y
+  turns p [] q y h = ap (λ t. t.1) h
+  turns p (x ∷ xs) q y (j, (k, o, c, e, a, b), h) =
+      let r = reads x k j.0.0 c in
+      let z : o ≡ R p.1 x.1 = sym e ∙ ap (R p.1) r.1 in
+      let n : j.1 ≡ least_pair R p x = b ∙ ap (λ o. min_by_ordering o p x) z in
+      let m : j.0.1 ≡ (least_pair R p x).1 = a ∙ ap (λ k. min_by_ordering o p.1 k) r.1 ∙ ap (λ o. min_by_ordering o p.1 x.1) z ∙ key_of (R p.1 x.1) p x in
+      let s : ◌≡◌ {A = (F × K) × (ℕ × K)} j ((f, (least_pair R p x).1), least_pair R p x) = λ i. ((r.0 i, m i), n i) in
+      (least_pair R p x, refl, turns (least_pair R p x) xs q y (rw (sym s) h))
+
+  -- `before`, the clause `runs` of the call before, shows the steps
+  pub picks : {S : Type 0} {steps : S → Option (ℕ × K) → S → Type 0} {P : Run steps → Type 0} (s : S) (r : Option (ℕ × K)) → EachRunFrom steps s P → PicksMinByKey steps g R s f r
+      → MatchOption r (Drains steps s []) (λ y. (x : ℕ × K) × (xs : List (ℕ × K)) × Drains steps s (x ∷ xs) × FoldsTo (λ b z c. c ≡ least_pair R b z) x xs y)
+  picks s None before h = h
+  picks s (Some y) before (x, xs, k, f', q, d, c, t) =
+      let r = reads x k f' c in
+      let e : ◌≡◌ {A = F × K} (f', k) (f, x.1) = λ i. (r.0 i, r.1 i) in
+      (x, xs, d, turns x xs q y (rw (sym e) t))
+
+-- the least of what was found before, if anything was, and of more
+abbrev from : {A : Type 0} → (A → A → A) → Option A → List A → Option A
+from f None xs = reduce f xs
+from f (Some b) xs = Some (fold f b xs)
 
 -- the foremost of the first n places, with its key
 abbrev pub Best : {K : Type 0} → (K → K → Bool) → List (Option K) → ℕ → Option (ℕ × K) → Type 0
@@ -25,6 +73,94 @@ Best {K} ahead keys n best =
 pub best_none : {K : Type 0} (ahead : K → K → Bool) (keys : List (Option K)) → Best ahead keys 0 None
 unfolding foremost
 best_none ahead keys = refl
+
+module _ {K : Type 0} (R : K → K → Ordering) (o : IsTotalOrder R) (keys : List (Option K)) where
+  -- a place without a key
+  passed_over : (n : ℕ) (best : Option (ℕ × K)) → get_or keys n None ≡ None → Best (lesser R) keys n best → Best (lesser R) keys (n + 1) best
+  unfolding foremost
+  passed_over n best e h = rw (add-one n) (on best h)
+    where
+      f : foremost (present keys) (goes_ahead (lesser R) keys) (suc n) ≡ foremost (present keys) (goes_ahead (lesser R) keys) n
+      f = rw e
+
+      on : (best : Option (ℕ × K)) → Best (lesser R) keys n best → Best (lesser R) keys (suc n) best
+      on None h = f ∙ h
+      on (Some p) h = (f ∙ h.0, h.1)
+
+  first_one : (n : ℕ) (k : K) → get_or keys n None ≡ Some k → Best (lesser R) keys n None → Best (lesser R) keys (n + 1) (Some (n, k))
+  unfolding foremost
+  first_one n k e h = rw (add-one n) (f, e)
+    where
+      f : foremost (present keys) (goes_ahead (lesser R) keys) (suc n) ≡ Some n
+      f = rw (e, h)
+
+  -- an earlier pair gives way only to a lesser key
+  gives_way : (p : ℕ × K) (n : ℕ) (k : K) → least_pair R p (n, k) ≡ cond (lesser R k p.1) (n, k) p
+  gives_way p n k = on (R p.1 k) refl
+    where
+      turned : (c : Ordering) → R p.1 k ≡ c → lesser R k p.1 ≡ is_gt c
+      turned c e = sym (flip (R k p.1)) ∙ ap is_gt (sym (o.antisymm p.1 k) ∙ e)
+        where
+          flip : (r : Ordering) → is_gt (ordering_reverse r) ≡ is_lt r
+          flip Less = refl
+          flip Equal = refl
+          flip Greater = refl
+
+      on : (c : Ordering) → R p.1 k ≡ c → min_by_ordering c p (n, k) ≡ cond (lesser R k p.1) (n, k) p
+      on Less e = rw (turned Less e) refl
+      on Equal e = rw (turned Equal e) refl
+      on Greater e = rw (turned Greater e) refl
+
+  one_more : (n : ℕ) (p : ℕ × K) (k : K) → get_or keys n None ≡ Some k → Best (lesser R) keys n (Some p) → Best (lesser R) keys (n + 1) (Some (least_pair R p (n, k)))
+  unfolding foremost
+  one_more n p k e h = rw (gives_way p n k) (rw (add-one n) (on (lesser R k p.1) refl))
+    where
+      f : foremost (present keys) (goes_ahead (lesser R) keys) (suc n) ≡ Some (cond (goes_ahead (lesser R) keys n p.0) n p.0)
+      f =
+          ap (λ b. cond b (Some (chosen (goes_ahead (lesser R) keys) (foremost (present keys) (goes_ahead (lesser R) keys) n) n)) (foremost (present keys) (goes_ahead (lesser R) keys) n)) (ap is_some e)
+          ∙ ap (λ w. Some (chosen (goes_ahead (lesser R) keys) w n)) h.0
+
+      test : goes_ahead (lesser R) keys n p.0 ≡ lesser R k p.1
+      test = rw (e, h.1)
+
+      on : (b : Bool) → lesser R k p.1 ≡ b → Best (lesser R) keys (suc n) (Some (cond b (n, k) p))
+      on true q = (f ∙ ap (λ x. Some (cond x n p.0)) (test ∙ q), e)
+      on false q = (f ∙ ap (λ x. Some (cond x n p.0)) (test ∙ q), h.1)
+
+  -- the entries from n on are these
+  record Rest (n : ℕ) (rest : List (Option K)) : Type 0 where
+    long : length keys ≡ n + length rest
+    reads : (i : ℕ) → get_or keys (n + i) None ≡ get_or rest i None
+
+  next : (n : ℕ) (k : Option K) (ks : List (Option K)) → Rest n (k ∷ ks) → (get_or keys n None ≡ k) × Rest (n + 1) ks
+  next n k ks h = (
+    ap (λ j. get_or keys j None) (sym (add-zero n)) ∙ h.reads 0,
+    record {
+      long = omega (arith, h.long);
+      reads = λ i. ap (λ j. get_or keys j None) (let q : n + 1 + i ≡ n + suc i = omega arith in q) ∙ h.reads (suc i);
+    },
+  )
+
+  rest_of : (rest : List (Option K)) (n : ℕ) (best : Option (ℕ × K)) → Rest n rest → Best (lesser R) keys n best
+      → Best (lesser R) keys (length keys) (from (least_pair R) best (filter_map paired (enumerate_from n rest)))
+  rest_of [] n None h b = let q : length keys ≡ n = omega (arith, h.long) in rw q b
+  rest_of [] n (Some p) h b = let q : length keys ≡ n = omega (arith, h.long) in rw q b
+  rest_of (None ∷ ks) n None h b = let m = next n None ks h in rest_of ks (n + 1) None m.1 (passed_over n None m.0 b)
+  rest_of (None ∷ ks) n (Some p) h b = let m = next n None ks h in rest_of ks (n + 1) (Some p) m.1 (passed_over n (Some p) m.0 b)
+  rest_of (Some x ∷ ks) n None h b = let m = next n (Some x) ks h in rest_of ks (n + 1) (Some (n, x)) m.1 (first_one n x m.0 b)
+  rest_of (Some x ∷ ks) n (Some p) h b =
+      let m = next n (Some x) ks h in rest_of ks (n + 1) (Some (least_pair R p (n, x))) m.1 (one_more n p x m.0 b)
+
+  -- the least of the pairs stands at the foremost place
+  pub least_is_foremost : (r : Option ℕ) → r ≡ option_map (λ p. p.0) (reduce (least_pair R) (filter_map paired (enumerate_from 0 keys)))
+      → r ≡ foremost (present keys) (goes_ahead (lesser R) keys) (length keys)
+  least_is_foremost r e =
+      e ∙ on (reduce (least_pair R) (filter_map paired (enumerate_from 0 keys)))
+      (rest_of keys 0 None (record { long = omega arith; reads = λ i. ap (λ j. get_or keys j None) (omega arith) }) (best_none (lesser R) keys))
+    where
+      on : (best : Option (ℕ × K)) → Best (lesser R) keys (length keys) best → option_map (λ p. p.0) best ≡ foremost (present keys) (goes_ahead (lesser R) keys) (length keys)
+      on None h = sym h
+      on (Some p) h = sym h.0
 
 -- one place more
 pub best_more : {K : Type 0} (ahead : K → K → Bool) (keys : List (Option K)) (n : ℕ) (best : Option (ℕ × K)) (key : Option K) → key ≡ get_or keys n None
@@ -168,37 +304,29 @@ best_all {K} ahead one chain keys n best e h =
     found None h = sym h
     found (Some p) h = sym h.0
 
--- a total order of the keys goes one way, and passes over none
-module _ {K : Type 0} (R : K → K → Ordering) (o : IsTotalOrder R) where
-  turn : (r : Ordering) → is_lt (ordering_reverse r) ≡ is_gt r
-  turn Less = refl
-  turn Equal = refl
-  turn Greater = refl
+-- a total order of the keys orders a list of them, so the foremost keeps its law
+pub foremost_law : {K : Type 0} (R : K → K → Ordering) → IsTotalOrder R → (keys : List (Option K))
+    → IsForemost (present keys) (goes_ahead (lesser R) keys) (length keys) (foremost (present keys) (goes_ahead (lesser R) keys) (length keys))
+foremost_law {K} R o keys = (foremost_found (present keys) (goes_ahead (lesser R) keys) (keys_order (lesser R) one_way chain keys) (length keys)).0
+  where
+    turn : (r : Ordering) → is_lt (ordering_reverse r) ≡ is_gt r
+    turn Less = refl
+    turn Equal = refl
+    turn Greater = refl
 
-  back : (x y : K) → lesser R x y ≡ is_gt (R y x)
-  back x y = ap is_lt (o.antisymm x y) ∙ turn (R y x)
+    back : (x y : K) → lesser R x y ≡ is_gt (R y x)
+    back x y = ap is_lt (o.antisymm x y) ∙ turn (R y x)
 
-  one_way : (x y : K) → lesser R x y ≡ true → lesser R y x ≡ false
-  one_way x y e = on (R y x) (sym (back x y) ∙ e)
-    where
-      on : (r : Ordering) → is_gt r ≡ true → is_lt r ≡ false
-      on Less q = absurd (both_ways false refl q)
-      on Equal q = refl
-      on Greater q = refl
+    one_way : (x y : K) → lesser R x y ≡ true → lesser R y x ≡ false
+    one_way x y e = on (R y x) (sym (back x y) ∙ e)
+      where
+        on : (r : Ordering) → is_gt r ≡ true → is_lt r ≡ false
+        on Less q = absurd (both_ways false refl q)
+        on Equal q = refl
+        on Greater q = refl
 
-  chain : (x y z : K) → lesser R x y ≡ false → lesser R y z ≡ false → lesser R x z ≡ false
-  chain x y z p q = back x z ∙ upto o z y x (sym (back y z) ∙ q) (sym (back x y) ∙ p)
-
-  -- so it orders a list of keys, and the foremost keeps its law
-  pub foremost_law : (keys : List (Option K))
-      → IsForemost (present keys) (goes_ahead (lesser R) keys) (length keys) (foremost (present keys) (goes_ahead (lesser R) keys) (length keys))
-  foremost_law keys = (foremost_found (present keys) (goes_ahead (lesser R) keys) (keys_order (lesser R) one_way chain keys) (length keys)).0
-
-  -- the best of all places is the foremost, and keeps its law
-  pub best_found : (keys : List (Option K)) (n : ℕ) (best : Option (ℕ × K)) → n ≡ length keys → Best (lesser R) keys n best
-      → (option_map (λ p. p.0) best ≡ foremost (present keys) (goes_ahead (lesser R) keys) (length keys))
-      × IsForemost (present keys) (goes_ahead (lesser R) keys) (length keys) (option_map (λ p. p.0) best)
-  best_found = best_all (lesser R) one_way chain
+    chain : (x y z : K) → lesser R x y ≡ false → lesser R y z ≡ false → lesser R x z ≡ false
+    chain x y z p q = back x z ∙ upto o z y x (sym (back y z) ∙ q) (sym (back x y) ∙ p)
 
 -- places without a key at the end change nothing
 pub foremost_beyond : (there : ℕ → Bool) (ahead : ℕ → ℕ → Bool) (m n : ℕ) → m ≤ n → ((i : ℕ) → m ≤ i → i < n → there i ≡ false)

@@ -1,27 +1,22 @@
-use Rattle.std.proofs.Common.{◌≡◌, length, get_or, Some, None, ◌∙◌, arith}
-use Rattle.std.proofs.lemmas.List.{get_or_default}
-use Rattle.choose.proofs.Chosen.{lesser, best_none, best_more, best_found}
+use Rattle.std.proofs.Common.{◌≡◌, ap, ◌∙◌, rules, tests}
+use Rattle.std.specs.Option.{option_map}
+use Rattle.std.proofs.lemmas.Iterator.{YieldsList-from_slice}
+use Rattle.std.proofs.lemmas.Iterator.Consumers.{reduce_from_yields_List, YieldsList-at, YieldsList-from_enumerate, YieldsList-from_filter_map}
+use Rattle.std.specs.List.{filter_map, enumerate_from, reduce}
+use Rattle.choose.proofs.Chosen.{paired, least_pair, picks, least_is_foremost, foremost_law}
 use Rattle.choose.proofs.foremost.Goals as goal
 
-pub loop-place-init : goal.loop-place-init
-loop-place-init g c = best_none (lesser g.K.Ord.cmp) c.args.keys.now
+pub returns-clause-place : goal.returns-clause-place
+returns-clause-place g c =
+    let keys = c.args.keys.now in
+    let p = picks g.K.Ord.cmp _ _ (λ x k q h. search (rules, tests)) c.filter_map.result c.min_by_key.result c.filter_map.ensures.runs c.min_by_key.ensures.ran in
+    let e : c.min_by_key.result ≡ reduce (least_pair g.K.Ord.cmp) (filter_map paired (enumerate_from 0 keys)) =
+    reduce_from_yields_List (least_pair g.K.Ord.cmp) c.filter_map.result c.min_by_key.result p
+    (YieldsList-from_filter_map _ paired
+    (YieldsList-at c.filter_map.ensures.source (YieldsList-from_enumerate (YieldsList-at c.enumerate.ensures.source (YieldsList-from_slice keys cc)) (cc)))
+    c.filter_map.ensures.closure (λ x r q k. search (rules, tests))) in
+    let m : c.map.result ≡ option_map (λ p. p.0) c.min_by_key.result = search rules in
+    least_is_foremost g.K.Ord.cmp g.met.K.Ord.total keys c.map.result (m ∙ ap (option_map (λ p. p.0)) e)
 
-pub loop-place-preserved : goal.loop-place-preserved
-loop-place-preserved g c =
-    let e : c.index-keys-place.result ≡ get_or c.args.keys.now c.loop-place.place None =
-    c.index-keys-place.is ∙ get_or_default c.args.keys.now c.loop-place.place c.index-keys-place.result None c.loop-place-test.true in
-    rw c.look-best.ensures (best_more (lesser g.K.Ord.cmp) c.args.keys.now c.loop-place.place c.loop-place.best c.index-keys-place.result e c.loop-place.invariant)
-
-pub returns-in-Some : goal.returns-in-Some
-returns-in-Some g c =
-    let e : c.loop-place.place ≡ length c.args.keys.now = omega arith in
-    let h = best_found g.K.Ord.cmp g.met.K.Ord.total c.args.keys.now c.loop-place.place
-    (Some (c.in-Some.place, c.in-Some.field-0-1)) e (rw c.in-Some.is at c.loop-place.invariant) in
-    record { place = h.0; law = h.1 }
-
-pub returns-in-None : goal.returns-in-None
-returns-in-None g c =
-    let e : c.loop-place.place ≡ length c.args.keys.now = omega arith in
-    let h = best_found g.K.Ord.cmp g.met.K.Ord.total c.args.keys.now c.loop-place.place None e
-    (rw c.in-None.is at c.loop-place.invariant) in
-    record { place = h.0; law = h.1 }
+pub returns-clause-law : goal.returns-clause-law
+returns-clause-law g c = rw (returns-clause-place g c) (foremost_law g.K.Ord.cmp g.met.K.Ord.total c.args.keys.now)
