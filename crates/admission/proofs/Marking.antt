@@ -66,6 +66,10 @@ marked_class t (suc i) rank mark byte before now k e b room m v h =
     let more = marked_more t.classes i rank mark byte before now (omega (arith, k.1)) e b room m v (subst (λ n. MarkedBy (take n t.classes) mark before now) p h) in
     subst (λ n. MarkedBy (take n t.classes) mark before (set now rank byte)) q more
 
+-- nothing is marked at first
+pub marked_none : (cs : List Terms) (mark : ℕ) (before : List ℕ) → MarkedBy (take 0 cs) mark before before
+marked_none cs mark before = record { bytes = λ r k. refl; rest = refl }
+
 -- the marks of the tasks below n
 pub record MarkedBelow (ts : List Task) (n : ℕ) (before now : List ℕ) : Type 0 where
   pub bytes : (r : ℕ) → r < 256 → get_or now r 0 ≡ mark_of (first (λ i. uses (at ts i).classes r) n)

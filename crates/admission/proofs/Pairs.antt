@@ -1,14 +1,16 @@
 -- The first pair that passes a test, as the least of a list of pairs.
-use Rattle.std.proofs.Common.{◌≡◌, ℕ, zero, suc, ◌+◌, ◌<◌, ◌≤◌, Bool, true, false, ◌⊎◌, List, [], ◌∷◌, Some, None, Option, IfSome, sym, refl, subst, inl, inr, arith}
+use Rattle.std.proofs.Common.{◌≡◌, ℕ, zero, suc, ◌+◌, ◌<◌, ◌≤◌, Bool, true, false, ltb, ◌⊎◌, List, [], ◌∷◌, Some, None, Option, IfSome, MatchOption, sym, refl, subst, inl, inr, arith}
 use Rattle.std.specs.Option.{option_map}
 use Rattle.std.specs.declared.cmp.Ordering.{Ordering}
 use Rattle.std.specs.declared.cmp.Ordering.TheVariants.{Less, Equal, Greater}
 use Rattle.std.specs.Ordering.{nat_cmp, ordering_then, min_by_ordering, MatchOrdering}
 use Rattle.std.specs.List.{range_with_len, fold, reduce, filter_map, cons_option, AllByRecursion}
-use Rattle.std.proofs.lemmas.Bool.{both_ways, cases_lt, false_from_ne_true}
+use Rattle.std.proofs.lemmas.Bool.{both_ways, cases_lt, ltb-true, and_parts, false_from_ne_true}
 use Rattle.std.proofs.lemmas.Cmp.{ranked}
 use Rattle.find.specs.First.{first, first_pair, Searched, SearchedPair}
 use Rattle.find.proofs.Firsts.{first_says, pair_is}
+use Rattle.group.specs.Task.{Task}
+use Rattle.admission.specs.Start.{sharing}
 
 -- a pair comes no later than another
 abbrev pub NoLater : ℕ × ℕ → ℕ × ℕ → Type 0
@@ -88,6 +90,41 @@ none_given h a (suc n) e j l k = elim (cases_lt a j) [
     parts None k = (refl, k)
     parts (Some x) k = absurd cc
 
+-- a pair below n and n that passes, and comes no later than any other, is the first one
+earliest : (test : ℕ → ℕ → Bool) (n : ℕ) (p : ℕ × ℕ) → p.0 < n → p.1 < n → test p.0 p.1 ≡ true
+    → ((i j : ℕ) → i < n → j < n → test i j ≡ true → NoLater p (i, j)) → SearchedPair test n (λ _. n) (Some p)
+earliest test n p a b h near = (
+  a,
+  λ i j l k. false_from_ne_true (test i j) (λ t. lower i j l (near i j (omega arith) k t)),
+  (b, h, λ j l. false_from_ne_true (test p.0 j) (λ t. second j l (near p.0 j a (omega arith) t))),
+)
+  where
+    lower : (i j : ℕ) → i < p.0 → NoLater p (i, j) → ⊥
+    lower i j l (inl q) = omega arith
+    lower i j l (inr q) = omega (arith, q.0)
+
+    second : (j : ℕ) → j < p.1 → NoLater p (p.0, j) → ⊥
+    second j l (inl q) = omega arith
+    second j l (inr q) = omega (arith, q.1)
+
+-- of the pairs whose second task is below t the first one that passes
+abbrev pub LeastPair : (ℕ → ℕ → Bool) → ℕ → Option (ℕ × ℕ) → Type 0
+LeastPair test t o =
+    MatchOption o ((i j : ℕ) → j < t → test i j ≡ false) (λ p. (p.1 < t) × (test p.0 p.1 ≡ true) × ((i j : ℕ) → j < t → test i j ≡ true → NoLater p (i, j)))
+
+pub least_none : (test : ℕ → ℕ → Bool) → LeastPair test 0 None
+least_none test = λ i j h. absurd (omega arith)
+
+-- all tasks
+pub least_all : (ts : List Task) (n : ℕ) (o : Option (ℕ × ℕ)) → LeastPair (sharing ts) n o → o ≡ first_pair (sharing ts) n (λ _. n)
+least_all ts n o h = sym (pair_is (sharing ts) n (λ _. n) o (searched o h))
+  where
+    searched : (o : Option (ℕ × ℕ)) → LeastPair (sharing ts) n o → SearchedPair (sharing ts) n (λ _. n) o
+    searched None h = λ i j l k. h i j k
+    searched (Some p) h =
+        let w = ltb-true p.0 p.1 (and_parts (ltb p.0 p.1) _ h.1).0 in
+        earliest (sharing ts) n p (omega (arith, h.0)) h.0 h.1 (λ i j l k u. h.2 i j k u)
+
 -- a pair of what was found and j
 abbrev pub with : ℕ → Option ℕ → Option (ℕ × ℕ)
 with j o = option_map (λ i. let p : ℕ × ℕ = (i, j) in p) o
@@ -122,21 +159,6 @@ pair_found test n = sym (pair_is test n (λ _. n) _ (searched (filter_map (found
         level : (k i : ℕ) → k ≤ i → NoLater (k, j) (i, j)
         level k i m = grind arith
 
-    sooner : (p : ℕ × ℕ) (i j : ℕ) → NoLater p (i, j) → i < p.0 → ⊥
-    sooner p i j (inl h) l = omega arith
-    sooner p i j (inr h) l = omega (arith, h.0)
-
-    sooner_second : (p : ℕ × ℕ) (j : ℕ) → NoLater p (p.0, j) → j < p.1 → ⊥
-    sooner_second p j (inl h) l = omega arith
-    sooner_second p j (inr h) l = omega (arith, h.1)
-
-    found : (p : ℕ × ℕ) → Passes p → ((i j : ℕ) → i < n → j < n → test i j ≡ true → NoLater p (i, j)) → SearchedPair test n (λ _. n) (Some p)
-    found p h near = (
-      h.0,
-      λ i j l k. false_from_ne_true (test i j) (λ t. sooner p i j (near i j (omega (arith, h.0)) k t) l),
-      (h.1, h.2, λ j l. false_from_ne_true (test p.0 j) (λ t. sooner_second p j (near p.0 j h.0 (omega (arith, h.1)) t) l)),
-    )
-
     searched : (xs : List (ℕ × ℕ)) → filter_map (found_with test n) (range_with_len 0 n) ≡ xs → SearchedPair test n (λ _. n) (reduce earlier xs)
     searched [] e = λ i j l k.
         missing (first (λ i. test i j) n) j (first_says (λ i. test i j) n) (none_given (found_with test n) 0 n e j (omega arith) (omega arith)) i l
@@ -145,5 +167,5 @@ pair_found test n = sym (pair_is test n (λ _. n) _ (searched (filter_map (found
         (all_given Passes (found_with test n) 0 n (λ j a b. passes (first (λ i. test i j) n) j (omega arith) (first_says (λ i. test i j) n))) in
         let holds : Passes (fold earlier m xs) = fold_keeps Passes m xs all.0 all.1 in
         let least = subst (AllByRecursion (NoLater (fold earlier m xs))) (sym e) (fold_least m xs) in
-        found (fold earlier m xs) holds (λ i j l k t. later (fold earlier m xs) (first (λ i. test i j) n) j (first_says (λ i. test i j) n)
+        earliest test n (fold earlier m xs) holds.0 holds.1 holds.2 (λ i j l k t. later (fold earlier m xs) (first (λ i. test i j) n) j (first_says (λ i. test i j) n)
         (each_given (NoLater (fold earlier m xs)) (found_with test n) 0 n least j (omega arith) (omega arith)) i l t)

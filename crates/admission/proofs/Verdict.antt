@@ -1,5 +1,5 @@
 -- What the answer of a start means.
-use Rattle.std.proofs.Common.{◌≡◌, ℕ, zero, suc, ◌<◌, ◌≤◌, Bool, true, false, not, ◌||◌, eqb, ltb, ◌⊎◌, List, [], ◌∷◌, length, get_or, is_some, Some, None, Err, Option, Result, sym, refl, ap, ◌∙◌, inl, inr, arith}
+use Rattle.std.proofs.Common.{◌≡◌, ℕ, zero, suc, ◌<◌, ◌≤◌, Bool, true, false, not, ◌||◌, eqb, ltb, ◌⊎◌, List, [], ◌∷◌, length, get_or, is_some, Some, None, Ok, Err, Option, Result, sym, refl, ap, ◌∙◌, inl, inr, arith}
 use Rattle.std.specs.Option.{option_or, option_map}
 use Rattle.std.proofs.lemmas.Bool.{cases_order, both_ways, eqb-true, eq-eqb, ltb-true, ltb-false, lt-ltb, le-ltb, and_parts, and_from, or_cases, or_left, or_right, not-true, not_from_false, false_from_ne_true}
 use Rattle.denial.specs.declared.Denial.{Denial}
@@ -11,7 +11,7 @@ use Rattle.find.proofs.Firsts.{pair_says, pair_is}
 use Rattle.group.specs.declared.meaning.Terms.{Terms}
 use Rattle.group.specs.Task.{Task, Class, at, terms_of, no_terms}
 use Rattle.bounds.specs.Bound.{bound, count_fault}
-use Rattle.bounds.proofs.Checked.{clear, both_clear, when_clear, count_clear}
+use Rattle.bounds.proofs.Checked.{both_clear, when_clear, count_clear}
 use Rattle.bounds.proofs.Least.{bound_absent, bound_least}
 use Rattle.admission.specs.Start.{uses, share, sharing, shared_fault, lacking, unbounded_fault, early_fault, plan_fault, start_fault, Shares, Lacks, Startable, StartLaw}
 
@@ -128,6 +128,10 @@ lacks_lacking ts k c s =
 
 abbrev pub answer : Option Denial → Result (Unit {0}) Denial
 answer f = unless f tt
+
+pub accepted : (f : Option Denial) → answer f ≡ Ok tt → f ≡ None
+accepted None e = refl
+accepted (Some d) e = absurd (let z : ◌≡◌ {A = ℕ} 0 1 = cc in omega arith)
 
 -- a refusal is the fault
 pub refused : (f : Option Denial) (x : Denial) → answer f ≡ Err x → f ≡ Some x
@@ -247,7 +251,7 @@ module _ (ts : List Task) where
   pub start_says : (started : Bool) (room : ℕ) → StartLaw started room ts (answer (start_fault started room ts))
   start_says started room = record {
     accepts = λ e h s. ap answer (ap (λ f. option_or f (plan_fault ts)) (early_clear started room e h s.some_task s.few) ∙ plan_clear s);
-    only = λ e. (let p = both_clear (early_fault started room ts) (plan_fault ts) (clear _ tt tt (sym e)) in
+    only = λ e. (let p = both_clear (early_fault started room ts) (plan_fault ts) (accepted _ e) in
         let q = early_passed started room p.0 in
         (q.0, q.1, startable q.2 q.3 p.1));
     shared = λ i j e. (let p = shared_named i j (past_early started room (denied SharedRank i j) (omega arith) (refused _ _ e)) in

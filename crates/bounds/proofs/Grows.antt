@@ -1,8 +1,9 @@
 -- What can be asked for grows with the ticks, and falls as the rank rises.
-use Rattle.std.proofs.Common.{◌≡◌, ℕ, zero, suc, ◌+◌, ◌-◌, ◌*◌, ◌<◌, ◌≤◌, Bool, true, false, cond, eqb, leb, List, length, get_or, le-div_iff_mul-le, div-mul-le_self, add-one, arith}
+use Rattle.std.proofs.Common.{◌≡◌, ℕ, zero, suc, ◌+◌, ◌-◌, ◌*◌, ◌<◌, ◌≤◌, max, Bool, true, false, cond, eqb, leb, List, [], ◌∷◌, ◌++◌, length, get_or, take, ap, ◌∙◌, le-div_iff_mul-le, div-mul-le_self, add-one, arith}
+use Rattle.std.proofs.lemmas.List.{take_more}
 use Rattle.group.specs.declared.meaning.Terms.{Terms}
 use Rattle.group.specs.Task.{Task, Lawful, at, no_terms, terms_of}
-use Rattle.bounds.specs.Bound.{sum, jobs, request, workload}
+use Rattle.bounds.specs.Bound.{sum, jobs, largest, request, workload}
 
 -- every task of a list keeps the laws
 abbrev pub AllLawful : List Task → Type 0
@@ -11,6 +12,23 @@ AllLawful ts = (i : ℕ) → i < length ts → Lawful (at ts i)
 -- the weight of a class in `largest`
 abbrev pub weight : ℕ → Terms → ℕ
 weight p c = cond (leb p c.rank) c.budget 0
+
+max_last : (a b c m : ℕ) → m ≡ max b c → max a m ≡ max (max a b) c
+max_last a b c m e = grind arith
+
+pub largest_last : (p : ℕ) (cs : List Terms) (c : Terms) → largest p (cs ++ (c ∷ [])) ≡ max (largest p cs) (weight p c)
+largest_last p [] c = omega arith
+largest_last p (d ∷ cs) c = max_last (weight p d) (largest p cs) (weight p c) (largest p (cs ++ (c ∷ []))) (largest_last p cs c)
+
+-- one class more
+pub largest_more : (p i w m : ℕ) (cs : List Terms) → i < length cs → w ≡ weight p (get_or cs i no_terms) → m ≡ largest p (take i cs)
+    → max w m ≡ largest p (take (i + 1) cs)
+largest_more p i w m cs l e q =
+    let t = ap (largest p) (take_more cs i no_terms l) ∙ largest_last p (take i cs) (get_or cs i no_terms) in
+    swap w m (weight p (get_or cs i no_terms)) (largest p (take i cs)) _ e q t
+  where
+    swap : (w m x y z : ℕ) → w ≡ x → m ≡ y → z ≡ max y x → max w m ≡ z
+    swap w m x y z a b c = grind arith
 
 -- a demand is never more than 4,095 jobs can ask for
 pub demand_small : (t : Task) → Lawful t → (N p : ℕ) → t.demand N p ≤ 4095 * 4095

@@ -10,7 +10,7 @@ use Rattle.std.specs.declared.cmp.Ordering.{Ordering}
 use Rattle.std.specs.declared.cmp.Ordering.TheVariants.{Less, Equal, Greater}
 use Rattle.std.specs.Ordering.{is_lt, is_gt, ordering_reverse, min_by_ordering}
 use Rattle.std.proofs.lemmas.Bool.{both_ways}
-use Rattle.choose.specs.Foremost.{foremost, chosen, key_ahead, goes_ahead, IsForemost, IsLowest, Orders}
+use Rattle.choose.specs.Foremost.{foremost, chosen, key_ahead, goes_ahead, better, IsForemost, IsLowest, Orders}
 use denote.Param.Members.{Mut}
 use denote.Ref.{Bor}
 
@@ -65,29 +65,29 @@ from f None xs = reduce f xs
 from f (Some b) xs = Some (fold f b xs)
 
 -- the foremost of the first n places, with its key
-abbrev Best : {K : Type 0} → (K → K → Ordering) → List (Option K) → ℕ → Option (ℕ × K) → Type 0
-Best {K} R keys n best =
-    MatchOption best (foremost (present keys) (goes_ahead (lesser R) keys) n ≡ None)
-    (λ p. (foremost (present keys) (goes_ahead (lesser R) keys) n ≡ Some p.0) × (get_or keys p.0 None ≡ Some p.1))
+abbrev pub Best : {K : Type 0} → (K → K → Bool) → List (Option K) → ℕ → Option (ℕ × K) → Type 0
+Best {K} ahead keys n best =
+    MatchOption best (foremost (present keys) (goes_ahead ahead keys) n ≡ None)
+    (λ p. (foremost (present keys) (goes_ahead ahead keys) n ≡ Some p.0) × (get_or keys p.0 None ≡ Some p.1))
+
+pub best_none : {K : Type 0} (ahead : K → K → Bool) (keys : List (Option K)) → Best ahead keys 0 None
+unfolding foremost
+best_none ahead keys = refl
 
 module _ {K : Type 0} (R : K → K → Ordering) (o : IsTotalOrder R) (keys : List (Option K)) where
-  none_yet : Best R keys 0 None
-  unfolding foremost
-  none_yet = refl
-
   -- a place without a key
-  passed_over : (n : ℕ) (best : Option (ℕ × K)) → get_or keys n None ≡ None → Best R keys n best → Best R keys (n + 1) best
+  passed_over : (n : ℕ) (best : Option (ℕ × K)) → get_or keys n None ≡ None → Best (lesser R) keys n best → Best (lesser R) keys (n + 1) best
   unfolding foremost
   passed_over n best e h = rw (add-one n) (on best h)
     where
       f : foremost (present keys) (goes_ahead (lesser R) keys) (suc n) ≡ foremost (present keys) (goes_ahead (lesser R) keys) n
       f = rw e
 
-      on : (best : Option (ℕ × K)) → Best R keys n best → Best R keys (suc n) best
+      on : (best : Option (ℕ × K)) → Best (lesser R) keys n best → Best (lesser R) keys (suc n) best
       on None h = f ∙ h
       on (Some p) h = (f ∙ h.0, h.1)
 
-  first_one : (n : ℕ) (k : K) → get_or keys n None ≡ Some k → Best R keys n None → Best R keys (n + 1) (Some (n, k))
+  first_one : (n : ℕ) (k : K) → get_or keys n None ≡ Some k → Best (lesser R) keys n None → Best (lesser R) keys (n + 1) (Some (n, k))
   unfolding foremost
   first_one n k e h = rw (add-one n) (f, e)
     where
@@ -111,7 +111,7 @@ module _ {K : Type 0} (R : K → K → Ordering) (o : IsTotalOrder R) (keys : Li
       on Equal e = rw (turned Equal e) refl
       on Greater e = rw (turned Greater e) refl
 
-  one_more : (n : ℕ) (p : ℕ × K) (k : K) → get_or keys n None ≡ Some k → Best R keys n (Some p) → Best R keys (n + 1) (Some (least_pair R p (n, k)))
+  one_more : (n : ℕ) (p : ℕ × K) (k : K) → get_or keys n None ≡ Some k → Best (lesser R) keys n (Some p) → Best (lesser R) keys (n + 1) (Some (least_pair R p (n, k)))
   unfolding foremost
   one_more n p k e h = rw (gives_way p n k) (rw (add-one n) (on (lesser R k p.1) refl))
     where
@@ -123,7 +123,7 @@ module _ {K : Type 0} (R : K → K → Ordering) (o : IsTotalOrder R) (keys : Li
       test : goes_ahead (lesser R) keys n p.0 ≡ lesser R k p.1
       test = rw (e, h.1)
 
-      on : (b : Bool) → lesser R k p.1 ≡ b → Best R keys (suc n) (Some (cond b (n, k) p))
+      on : (b : Bool) → lesser R k p.1 ≡ b → Best (lesser R) keys (suc n) (Some (cond b (n, k) p))
       on true q = (f ∙ ap (λ x. Some (cond x n p.0)) (test ∙ q), e)
       on false q = (f ∙ ap (λ x. Some (cond x n p.0)) (test ∙ q), h.1)
 
@@ -141,8 +141,8 @@ module _ {K : Type 0} (R : K → K → Ordering) (o : IsTotalOrder R) (keys : Li
     },
   )
 
-  rest_of : (rest : List (Option K)) (n : ℕ) (best : Option (ℕ × K)) → Rest n rest → Best R keys n best
-      → Best R keys (length keys) (from (least_pair R) best (filter_map paired (enumerate_from n rest)))
+  rest_of : (rest : List (Option K)) (n : ℕ) (best : Option (ℕ × K)) → Rest n rest → Best (lesser R) keys n best
+      → Best (lesser R) keys (length keys) (from (least_pair R) best (filter_map paired (enumerate_from n rest)))
   rest_of [] n None h b = let q : length keys ≡ n = omega (arith, h.long) in rw q b
   rest_of [] n (Some p) h b = let q : length keys ≡ n = omega (arith, h.long) in rw q b
   rest_of (None ∷ ks) n None h b = let m = next n None ks h in rest_of ks (n + 1) None m.1 (passed_over n None m.0 b)
@@ -156,11 +156,41 @@ module _ {K : Type 0} (R : K → K → Ordering) (o : IsTotalOrder R) (keys : Li
       → r ≡ foremost (present keys) (goes_ahead (lesser R) keys) (length keys)
   least_is_foremost r e =
       e ∙ on (reduce (least_pair R) (filter_map paired (enumerate_from 0 keys)))
-      (rest_of keys 0 None (record { long = omega arith; reads = λ i. ap (λ j. get_or keys j None) (omega arith) }) none_yet)
+      (rest_of keys 0 None (record { long = omega arith; reads = λ i. ap (λ j. get_or keys j None) (omega arith) }) (best_none (lesser R) keys))
     where
-      on : (best : Option (ℕ × K)) → Best R keys (length keys) best → option_map (λ p. p.0) best ≡ foremost (present keys) (goes_ahead (lesser R) keys) (length keys)
+      on : (best : Option (ℕ × K)) → Best (lesser R) keys (length keys) best → option_map (λ p. p.0) best ≡ foremost (present keys) (goes_ahead (lesser R) keys) (length keys)
       on None h = sym h
       on (Some p) h = sym h.0
+
+-- one place more
+pub best_more : {K : Type 0} (ahead : K → K → Bool) (keys : List (Option K)) (n : ℕ) (best : Option (ℕ × K)) (key : Option K) → key ≡ get_or keys n None
+    → Best ahead keys n best → Best ahead keys (n + 1) (better ahead best n key)
+unfolding foremost
+best_more {K} ahead keys n best None e h = rw (add-one n) (absent best h)
+  where
+    f : foremost (present keys) (goes_ahead ahead keys) (suc n) ≡ foremost (present keys) (goes_ahead ahead keys) n
+    f = rw (sym e)
+
+    absent : (best : Option (ℕ × K)) → Best ahead keys n best → Best ahead keys (suc n) best
+    absent None h = f ∙ h
+    absent (Some p) h = (f ∙ h.0, h.1)
+best_more {K} ahead keys n None (Some k) e h = rw (add-one n) (f, sym e)
+  where
+    f : foremost (present keys) (goes_ahead ahead keys) (suc n) ≡ Some n
+    f = rw (sym e, h)
+best_more {K} ahead keys n (Some p) (Some k) e h = rw (add-one n) (on (ahead k p.1) refl)
+  where
+    f : foremost (present keys) (goes_ahead ahead keys) (suc n) ≡ Some (cond (goes_ahead ahead keys n p.0) n p.0)
+    f =
+        ap (λ b. cond b (Some (chosen (goes_ahead ahead keys) (foremost (present keys) (goes_ahead ahead keys) n) n)) (foremost (present keys) (goes_ahead ahead keys) n)) (ap is_some (sym e))
+        ∙ ap (λ o. Some (chosen (goes_ahead ahead keys) o n)) h.0
+
+    test : goes_ahead ahead keys n p.0 ≡ ahead k p.1
+    test = rw (sym e, h.1)
+
+    on : (b : Bool) → ahead k p.1 ≡ b → Best ahead keys (suc n) (cond b (Some (n, k)) (Some p))
+    on true q = (f ∙ ap (λ x. Some (cond x n p.0)) (test ∙ q), sym e)
+    on false q = (f ∙ ap (λ x. Some (cond x n p.0)) (test ∙ q), h.1)
 
 -- The law of the foremost ----------------------------------------------------------------------------------------------------
 
@@ -259,6 +289,20 @@ foremost_same there there' ahead ahead' (suc n) p a =
         same None h e = refl
         same (Some r) h e = ap (λ x. cond x n r) (a n r (omega arith) h.0 e h.1)
     on o h false e q = rw (sym q, sym (p n (omega arith)), e)
+
+-- all places: the answer is the foremost, and so keeps its law
+pub best_all : {K : Type 0} (ahead : K → K → Bool) → ((x y : K) → ahead x y ≡ true → ahead y x ≡ false)
+    → ((x y z : K) → ahead x y ≡ false → ahead y z ≡ false → ahead x z ≡ false) → (keys : List (Option K)) (n : ℕ) (best : Option (ℕ × K)) → n ≡ length keys
+    → Best ahead keys n best → (option_map (λ p. p.0) best ≡ foremost (present keys) (goes_ahead ahead keys) (length keys))
+    × IsForemost (present keys) (goes_ahead ahead keys) (length keys) (option_map (λ p. p.0) best)
+best_all {K} ahead one chain keys n best e h =
+    let q : option_map (λ p. p.0) best ≡ foremost (present keys) (goes_ahead ahead keys) (length keys) =
+    found best h ∙ ap (foremost (present keys) (goes_ahead ahead keys)) e in
+    (q, rw q (foremost_found (present keys) (goes_ahead ahead keys) (keys_order ahead one chain keys) (length keys)).0)
+  where
+    found : (best : Option (ℕ × K)) → Best ahead keys n best → option_map (λ p. p.0) best ≡ foremost (present keys) (goes_ahead ahead keys) n
+    found None h = sym h
+    found (Some p) h = sym h.0
 
 -- a total order of the keys orders a list of them, so the foremost keeps its law
 pub foremost_law : {K : Type 0} (R : K → K → Ordering) → IsTotalOrder R → (keys : List (Option K))

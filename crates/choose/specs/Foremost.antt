@@ -36,6 +36,12 @@ key_ahead ahead (Some j) (Some k) = ahead j k
 abbrev pub goes_ahead : {K : Type 0} → (K → K → Bool) → List (Option K) → (i j : ℕ) → Bool
 goes_ahead ahead keys i j = key_ahead ahead (slice_index_or keys i None) (slice_index_or keys j None)
 
+-- the foremost so far and its key, once one more place was looked at
+abbrev pub better : {K : Type 0} → (K → K → Bool) → Option (ℕ × K) → (place : ℕ) → Option K → Option (ℕ × K)
+better ahead best place None = best
+better ahead None place (Some k) = Some (place, k)
+better ahead (Some p) place (Some k) = cond (ahead k p.1) (Some (place, k)) (Some p)
+
 -- The test is an order of what is present: it goes one way, and of three no one is passed over.
 pub record Orders (present : ℕ → Bool) (ahead : ℕ → ℕ → Bool) : Type 0 where
   pub one_way : (x y : ℕ) → ahead x y ≡ true → ahead y x ≡ false

@@ -77,12 +77,16 @@ fn print_verdict(rt: &impl Print, plate: &[u8], order: &[u8]) -> io::Result<()> 
         return println!(rt; "same");
     }
     let (a, b) = (plate.len(), order.len());
+    if a != b {
+        // Before the bytes are gone over: of other lengths no byte is named.
+        return println!(rt; "different: {a} bytes and {b} bytes");
+    }
     match first_difference(plate, order) {
-        Some(i) if a == b && i < a => {
+        Some(i) if i < a && i < b => {
             let (x, y) = (plate[i], order[i]);
             println!(rt; "different: byte {i} is {x:02X} and {y:02X}")
         }
-        _ => println!(rt; "different: {a} bytes and {b} bytes"),
+        _ => println!(rt; "different"),
     }
 }
 

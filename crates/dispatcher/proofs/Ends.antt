@@ -1,5 +1,5 @@
 -- The records of a tick, task by task: each step of a loop over the tasks, that there is room for all, and what the list then holds.
-use Rattle.std.proofs.Common.{◌≡◌, ℕ, zero, suc, ◌+◌, ◌≤◌, Bool, cond, ◌⊎◌, List, [], ◌∷◌, ◌++◌, length, take, drop, Some, None, Option, refl, ap, inl, inr, add-one, arith}
+use Rattle.std.proofs.Common.{◌≡◌, ℕ, zero, suc, ◌+◌, ◌<◌, ◌≤◌, Bool, cond, ◌⊎◌, List, [], ◌∷◌, ◌++◌, length, take, drop, Some, None, Option, refl, ap, inl, inr, add-one, arith}
 use Rattle.std.proofs.lemmas.List.{length-append}
 use Rattle.std.proofs.lemmas.List.Sorted.{IsPermutation-refl}
 use Rattle.group.specs.Task.{Task, at}
@@ -56,6 +56,14 @@ module _ (ts : List Task) (s : State) (mark : Bool) (ran : Option ℕ) where
     where
       order : (m n : ℕ) → m ≤ suc n → (m ≡ suc n) ⊎ (m ≤ n)
       order m n h = grind arith
+
+  -- so a list with room for all pending jobs has room for the next end
+  pub ends_room : (n i : ℕ) → i < n → (w : Way) → way_at i ≡ Some w → length (ends_upto ts s mark ran i) < pending_upto n
+  ends_room n i l w e =
+      let a = ends_few i in
+      let b : 1 ≤ cond (is_pending (slot_of s i)) 1 0 = one_end i (Some w) e in
+      let c : pending_upto (suc i) ≤ pending_upto n = pending_grows (suc i) n l in
+      omega arith
 
 -- a list whose front are the ends in this order, and whose rest is as before
 pub recorded_as : (ends before after : List End) → after ≡ ends ++ drop (length ends) before → Recorded ends before after

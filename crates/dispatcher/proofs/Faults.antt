@@ -1,5 +1,5 @@
 -- What is known where a call is not refused.
-use Rattle.std.proofs.Common.{◌≡◌, ℕ, ◌-◌, ◌<◌, ◌≤◌, Bool, true, false, not, ◌&&◌, leb, List, length, Some, None, Ok, Option, refl, arith}
+use Rattle.std.proofs.Common.{◌≡◌, ℕ, ◌-◌, ◌<◌, ◌≤◌, Bool, true, false, not, ◌&&◌, leb, List, length, Some, None, Ok, Err, Option, refl, arith}
 use Rattle.std.specs.Option.{option_or}
 use Rattle.std.proofs.lemmas.Bool.{ltb-false, leb-true, leb-false, not-false, and_parts}
 use Rattle.denial.specs.declared.Denial.{Denial}
@@ -21,6 +21,10 @@ never e = absurd (omega arith)
 pub unless_ok : {A : Type 0} (f : Option Denial) (x y : A) → unless f x ≡ Ok y → (f ≡ None) × (x ≡ y)
 unless_ok None x y e = (refl, cc)
 unless_ok (Some d) x y e = never (cc)
+
+pub unless_err : {A : Type 0} (f : Option Denial) (x : A) (d : Denial) → unless f x ≡ Err d → f ≡ Some d
+unless_err None x d e = never (cc)
+unless_err (Some d') x d e = cc
 
 ready_by : (gap clock : ℕ) (last : Option ℕ) → 1 ≤ gap → too_soon gap clock last ≡ false → ready_of gap last ≤ clock
 ready_by gap clock None g e = omega arith

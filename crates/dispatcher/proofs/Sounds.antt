@@ -1,5 +1,5 @@
 -- Every accepted step keeps what holds of a task in every reached state.
-use Rattle.std.proofs.Common.{◌≡◌, ℕ, ◌+◌, ◌-◌, ◌≤◌, Bool, true, false, cond, Some, Option, refl, arith}
+use Rattle.std.proofs.Common.{◌≡◌, ℕ, ◌+◌, ◌-◌, ◌≤◌, Bool, true, false, cond, Some, None, Option, refl, arith}
 use Rattle.group.specs.declared.meaning.Outcome.TheVariants.{Finish, Miss}
 use Rattle.group.specs.Task.{Task, terms_of, Lawful, Position}
 use Rattle.dispatcher.specs.declared.slot.Slot.{Slot}
@@ -7,11 +7,12 @@ use Rattle.dispatcher.specs.declared.slot.Slot.TheVariants.{Empty, Pending, Halt
 use Rattle.dispatcher.specs.declared.end.Way.{Way}
 use Rattle.dispatcher.specs.declared.end.Way.TheVariants.{Finished, Cut, Late}
 use Rattle.dispatcher.specs.Slots.{is_halted}
-use Rattle.dispatcher.specs.State.{Standing, stands, release_one, resume_one}
+use Rattle.dispatcher.specs.State.{Standing, stands, new_seat, release_one, resume_one, tick_one}
+use Rattle.dispatcher.specs.Refusals.{seat_fault}
 use Rattle.dispatcher.specs.Sound.{ready_of, ready_at, Job, SlotSound, Sound}
-use Rattle.dispatcher.proofs.Fates.{Fate, judged, fate, fated, vacated, Judged, judged_is}
+use Rattle.dispatcher.proofs.Fates.{Fate, judged, fate, fated, vacated, Judged, judged_is, tick_is_fated}
 use Rattle.dispatcher.proofs.Fates.Judged.{by_finish, by_cut, by_age, goes_on}
-use Rattle.dispatcher.proofs.Faults.{Takes}
+use Rattle.dispatcher.proofs.Faults.{Takes, takes_from}
 
 clash : (b : Bool) → b ≡ true → b ≡ false → ⊥
 clash b e e' = grind arith
@@ -97,3 +98,18 @@ sound_release t clock l law s =
 
 pub sound_resume : (t : Task) (clock : ℕ) (l : Standing) → Sound t clock l → Sound t clock (resumed l)
 sound_resume t clock l s = record { placed = s.placed; soon = s.soon; job = tt }
+
+-- The dispatcher's own steps -------------------------------------------------------------------------------------------------
+
+-- a task at a position of its own, with a new seat
+pub sound_new : (t : Task) (x : ℕ) → Position t x → Sound t 0 (stands x new_seat)
+sound_new t x h = record { placed = h; soon = omega arith; job = tt }
+
+pub sound_tick_one : (t : Task) (clock : ℕ) (runs mark : Bool) (l : Standing) → Lawful t → Sound t clock l → Sound t (clock + 1) (tick_one t clock runs mark l)
+sound_tick_one t clock runs mark l law s = rw (tick_is_fated t clock runs mark l) (sound_tick t clock runs mark law l s)
+
+pub sound_release_one : (t : Task) (clock : ℕ) (l : Standing) → Lawful t → Sound t clock l → seat_fault t.gap clock l.seat ≡ None → Sound t clock (release_one t clock l)
+sound_release_one t clock l law s e = rw (release_is t clock l s (takes_from t.gap clock l.seat law.gap_low e)) (sound_release t clock l law s)
+
+pub sound_resume_one : (t : Task) (clock : ℕ) (l : Standing) → Sound t clock l → is_halted l.seat.slot ≡ true → Sound t clock (resume_one l)
+sound_resume_one t clock l s h = rw (resume_is l h) (sound_resume t clock l s)

@@ -1,5 +1,5 @@
--- The keys by which jobs are chosen. Assumes nothing.
-use Rattle.std.specs.Prelude.{ℕ, ◌-◌, Some, None, Option}
+-- The keys by which jobs are chosen, and lists of them. Assumes nothing.
+use Rattle.std.specs.Prelude.{◌≡◌, ℕ, ◌-◌, ◌<◌, ◌≤◌, List, length, Some, None, Option, slice_index_or}
 use Rattle.std.specs.declared.cmp.Reverse.{Reverse}
 use Rattle.group.specs.Task.{Task, terms_of}
 use Rattle.dispatcher.specs.declared.order.ByExpiry.{ByExpiry}
@@ -17,3 +17,9 @@ abbrev pub expiry_key : (gap task clock : ℕ) → Slot → Option ByExpiry
 expiry_key gap task clock Empty = None
 expiry_key gap task clock (Pending c r u) = Some (record { left = gap - (clock - r); task = task })
 expiry_key gap task clock Halted = None
+
+-- the keys of the first n tasks, as far as there are seats
+pub record KeysOf {K : Type 0} (key : ℕ → Option K) (n : ℕ) (keys : List (Option K)) : Type 0 where
+  pub long : length keys ≡ 64
+  pub has : (i : ℕ) → i < n → i < 64 → slice_index_or keys i None ≡ key i
+  pub lacks : (i : ℕ) → n ≤ i → slice_index_or keys i None ≡ None

@@ -103,6 +103,6 @@ impl<G: Group> Dispatcher<G> {
         ensures { result ≡ slot_answer (G.tasks self.now.group) (state G.places self.now) task }
     {
         check_task(&self.group, task)?;
-        Ok(self.slot_at(task).seen(self.clock))
+        Ok(self.table.seat(task).slot.seen(self.clock))
     }
 }

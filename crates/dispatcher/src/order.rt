@@ -1,8 +1,8 @@
 // Who runs next, and which job expires next.
-ghost use Rattle.std.specs.Prelude.{◌≡◌, ◌<◌, IfSome};
+ghost use Rattle.std.specs.Prelude.{◌≡◌, ◌<◌, length, IfSome, slice_index_or};
 ghost use Rattle.group.specs.Task.{at};
-ghost use Rattle.dispatcher.specs.State.{slot_of};
-ghost use Rattle.dispatcher.specs.Keys.{rank_key, expiry_key};
+ghost use Rattle.dispatcher.specs.State.{new_seat};
+ghost use Rattle.dispatcher.specs.Keys.{rank_key, expiry_key, KeysOf};
 ghost use Rattle.dispatcher.specs.Questions.{next_answer, expiry_answer};
 ghost use Rattle.dispatcher.specs.Boards.{state};
 
@@ -11,7 +11,6 @@ use crate::seats::SEATS;
 use crate::slot::Slot;
 use choose::foremost;
 use group::Group;
-use std::array;
 use std::cmp::Reverse;
 
 // Ticks left and task number: fewer ticks go ahead, and of as many the lower task.
@@ -33,9 +32,9 @@ fn numbered(place: Option<usize>) -> Option<u16>
 impl<G: Group> Dispatcher<G> {
     // The rank of a task's pending job; the higher goes ahead.
     fn rank(&self, task: u16) -> Option<Reverse<u8>>
-        ensures { result ≡ rank_key (at (G.tasks self.now.group) task) (slot_of (state G.places self.now) task) }
+        ensures { result ≡ rank_key (at (G.tasks self.now.group) task) (slice_index_or self.now.table.seats task new_seat).slot }
     {
-        match self.slot_at(task) {
+        match self.table.seat(task).slot {
             Slot::Pending { class, .. } => Some(Reverse(self.group.terms(task, class).rank)),
             _ => None,
         }
@@ -43,9 +42,9 @@ impl<G: Group> Dispatcher<G> {
 
     // The ticks that a task's pending job has left.
     fn left(&self, task: u16) -> Option<ByExpiry>
-        ensures { result ≡ expiry_key (at (G.tasks self.now.group) task).gap task self.now.clock (slot_of (state G.places self.now) task) }
+        ensures { result ≡ expiry_key (at (G.tasks self.now.group) task).gap task self.now.clock (slice_index_or self.now.table.seats task new_seat).slot }
     {
-        match self.slot_at(task) {
+        match self.table.seat(task).slot {
             Slot::Pending { released, .. } => {
                 let age = self.clock.saturating_sub(released);
                 let left = u32::from(self.group.gap(task)).saturating_sub(age);
@@ -55,19 +54,42 @@ impl<G: Group> Dispatcher<G> {
         }
     }
 
+    // The ranks of all pending jobs. (Of the tasks that there are, and the group is asked for their number once. Keys of all seats by
+    // `from_fn` were tried: for a few tasks that took twice the time.)
+    fn ranks(&self) -> [Option<Reverse<u8>>; SEATS]
+        ensures { KeysOf (λ i. rank_key (at (G.tasks self.now.group) i) (slice_index_or self.now.table.seats i new_seat).slot)
+            (length (G.tasks self.now.group)) result }
+    {
+        let mut keys = [None; SEATS];
+        for task in 0..self.group.count().min(64) {
+            keys[usize::from(task)] = self.rank(task);
+        }
+        keys
+    }
+
+    // The ticks left of all pending jobs.
+    fn all_left(&self) -> [Option<ByExpiry>; SEATS]
+        ensures { KeysOf (λ i. expiry_key (at (G.tasks self.now.group) i).gap i self.now.clock (slice_index_or self.now.table.seats i new_seat).slot)
+            (length (G.tasks self.now.group)) result }
+    {
+        let mut keys = [None; SEATS];
+        for task in 0..self.group.count().min(64) {
+            keys[usize::from(task)] = self.left(task);
+        }
+        keys
+    }
+
     // The task that would run next: the one whose pending job has the highest rank; none when idle.
     pub fn next_to_run(&self) -> Option<u16>
         ensures { result ≡ next_answer (G.tasks self.now.group) (state G.places self.now) }
     {
-        let ranks: [_; SEATS] = array::from_fn(|i| self.rank(i as u16));
-        numbered(foremost(&ranks))
+        numbered(foremost(&self.ranks()))
     }
 
     // The task whose pending job expires next: the one with the fewest ticks left, the lower task on a tie; none when idle.
     pub fn next_expiry(&self) -> Option<u16>
         ensures { result ≡ expiry_answer (G.tasks self.now.group) (state G.places self.now) }
     {
-        let ticks_left: [_; SEATS] = array::from_fn(|i| self.left(i as u16));
-        numbered(foremost(&ticks_left))
+        numbered(foremost(&self.all_left()))
     }
 }

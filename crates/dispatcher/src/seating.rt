@@ -1,14 +1,11 @@
 // What happens to one seat, and the seats of a table.
 ghost use Rattle.std.specs.Prelude.{◌≡◌, ◌<◌, slice_index_or, slice_set};
 ghost use Rattle.dispatcher.specs.Slots.{counted_to};
-ghost use Rattle.dispatcher.specs.State.{new_seat, slot_of, meets_seat};
-ghost use Rattle.dispatcher.specs.Boards.{state};
+ghost use Rattle.dispatcher.specs.State.{new_seat, meets_seat};
 
-use crate::board::Dispatcher;
 use crate::event::Event;
 use crate::seats::Table;
 use crate::slot::{Seat, Slot};
-use group::Group;
 
 impl Seat {
     // A seat that nothing has happened to.
@@ -47,18 +44,5 @@ impl Table {
             .get(usize::from(task))
             .copied()
             .unwrap_or(Seat::NEW)
-    }
-}
-
-impl<G: Group> Dispatcher<G> {
-    // The slot of a task; an empty one past the last task.
-    pub(crate) fn slot_at(&self, task: u16) -> Slot
-        ensures { result ≡ slot_of (state G.places self.now) task }
-    {
-        if task < self.group.count() {
-            self.table.seat(task).slot
-        } else {
-            Slot::Empty
-        }
     }
 }

@@ -20,7 +20,7 @@ impl<G: Group> Dispatcher<G> {
         ensures { result ≡ pending_count (G.tasks self.now.group) (state G.places self.now) }
     {
         (0..self.group.count())
-            .filter(|task| self.slot_at(*task).is_pending())
+            .filter(|task| self.table.seat(*task).slot.is_pending())
             .count()
     }
 

@@ -1,5 +1,5 @@
 -- Sums over successive classes of a cycle: a whole turn is the same from every class, so only the remainder depends on the start.
-use Rattle.std.specs.Prelude.{◌≡◌, ℕ, zero, suc, ◌+◌, ◌-◌, ◌*◌, ◌/◌, ◌%◌, ◌<◌, ◌≤◌, true, ◌⊎◌}
+use Rattle.std.specs.Prelude.{◌≡◌, ℕ, zero, suc, ◌+◌, ◌-◌, ◌*◌, ◌/◌, ◌%◌, ◌<◌, ◌≤◌, max, true, ◌⊎◌}
 use Rattle.std.proofs.Common.{sym, ap, ◌∙◌, inl, inr, div-add-mod', arith}
 use Rattle.kinds.specs.Cycle.{within, next_class, successive, largest}
 
@@ -153,6 +153,16 @@ one_on w k x (suc n) h = ap (λ m. w x + successive w k (next_class k x) m) (pre
     pred j = omega arith
 
 -- the largest
+pub largest_more : (f : ℕ → ℕ) (s : ℕ) → 1 ≤ s → largest (s + 1 - 1) f ≡ max (largest (s - 1) f) (f s)
+largest_more f zero h = omega arith
+largest_more f (suc s) h = ap (λ n. largest n f) (one s) ∙ ap (λ n. max (largest n f) (f (suc s))) (pred s)
+  where
+    one : (s : ℕ) → suc s + 1 - 1 ≡ suc s
+    one s = omega arith
+
+    pred : (j : ℕ) → j ≡ suc j - 1
+    pred j = omega arith
+
 pub largest_at : (k : ℕ) (f : ℕ → ℕ) (x : ℕ) → 1 ≤ x → x ≤ k → f x ≤ largest k f
 largest_at zero f x h l = omega arith
 largest_at (suc k) f x h l =

@@ -1,24 +1,26 @@
 -- A frame row and the task that it means.
-use Rattle.std.specs.Prelude.{◌≡◌, ℕ, ◌+◌, ◌*◌, ◌/◌, ◌%◌, ◌<◌, ◌≤◌, min, length, take, None, Err, Result, refl}
-use Rattle.std.proofs.Common.{sym, ap, ◌∙◌, arith, length-take}
-use Rattle.std.proofs.lemmas.List.{length-map}
+use Rattle.std.specs.Prelude.{◌≡◌, ℕ, zero, suc, ◌+◌, ◌-◌, ◌*◌, ◌/◌, ◌%◌, ◌<◌, ◌≤◌, min, cond, map, length, take, IfNone, Some, None, Option, Err, Result, nat_lt, refl}
+use Rattle.std.proofs.Common.{sym, ap, subst, ◌∙◌, not-suc-le-zero, arith, length-take}
+use Rattle.std.proofs.lemmas.List.{get_or-take, get_or_past, length-map}
 use Rattle.std.proofs.lemmas.Bool.{le-ltb, lt-ltb}
 use Rattle.denial.specs.declared.Denial.{Denial}
 use Rattle.denial.specs.declared.Rule.TheVariants.{Ranks}
 use Rattle.denial.specs.Numbers.{denied}
 use Rattle.denial.specs.Checks.{unless}
-use Rattle.group.specs.Task.{Position, Lawful}
-use Rattle.plate.specs.Faults.{framed_fault}
+use Rattle.group.specs.declared.meaning.Outcome.{Outcome}
+use Rattle.group.specs.declared.meaning.Outcome.TheVariants.{Finish, Miss}
+use Rattle.group.specs.Task.{Position, Lawful, no_terms, terms_of, after}
+use Rattle.plate.specs.Faults.{frame_at, framed_fault}
 use Rattle.plate.specs.Plans.{SoundFramed}
 use Rattle.plate.specs.Rows.{Framed}
 use Rattle.plate.proofs.Frameds as plate
 use Rattle.kinds.specs.declared.rows.FrameRow.{FrameRow}
-use Rattle.kinds.specs.Cycle.{successive, largest}
+use Rattle.kinds.specs.Cycle.{next_class, successive, largest}
 use Rattle.kinds.specs.MissCounted.{IsMissCounted}
 use Rattle.kinds.specs.Frames.{framed_task, frame_terms}
-use Rattle.kinds.specs.Rows.{GoodFramed, framed_classes, framed_of, framed_row_fault, framed_row_task, row_above}
+use Rattle.kinds.specs.Rows.{GoodFramed, framed_classes, framed_of, framed_class, framed_row_fault, framed_row_task, row_above}
 use Rattle.kinds.specs.CycleLemmas.{is_within, wraps, largest_plus, successive_small}
-use Rattle.kinds.specs.FramedLaws.{lawful, above_small}
+use Rattle.kinds.specs.FramedLaws.{lawful, class_terms, above_small}
 use Rattle.kinds.specs.Props.{good_framed_prop}
 use Rattle.kinds.specs.Counting.{one_frame_counts}
 use Rattle.kinds.specs.Attained.{framed_attained}
@@ -40,6 +42,34 @@ module _ (r : FrameRow) (k : GoodFramed r) where
   -- a task of one frame counts its misses
   pub row_counts : r.count ≡ 1 → IsMissCounted (framed_row_task r)
   row_counts one = one_frame_counts (framed_of r) k.sound (frames_count ∙ one)
+
+  pub row_after : (o : Outcome) (x : ℕ) → next_class r.count x ≡ after (framed_row_task r) o x
+  row_after Finish x = ap (λ n. next_class n x) (sym frames_count)
+  row_after Miss x = ap (λ n. next_class n x) (sym frames_count)
+
+  -- a frame that counts stands at its own place in the array
+  frame_here : (j : ℕ) → suc j ≤ r.count → frame_at r.frames (suc j - 1) ≡ frame_at (take r.count r.frames) j
+  frame_here j l = ap (frame_at r.frames) (pred j) ∙ sym (get_or-take r.count r.frames j (record { budget = 0; rank = 0 }) l)
+    where
+      pred : (j : ℕ) → suc j - 1 ≡ j
+      pred j = omega arith
+
+  pub row_terms : (c : ℕ) → 1 ≤ c → c ≤ r.count → framed_class r c ≡ terms_of (framed_row_task r) c
+  row_terms zero h l = absurd (not-suc-le-zero h)
+  row_terms (suc j) h l = ap frame_terms (frame_here j l) ∙ sym (class_terms (framed_of r) k.sound j (omega (arith, frames_count)))
+
+  pub row_no_terms : (c : ℕ) → (1 ≤ c → c ≤ r.count → ⊥) → no_terms ≡ terms_of (framed_row_task r) c
+  row_no_terms zero h = refl
+  row_no_terms (suc j) h =
+      sym (get_or_past (map frame_terms (take r.count r.frames)) j no_terms (omega (arith, row_classes, out j r.count h)))
+    where
+      out : (j m : ℕ) → (1 ≤ suc j → suc j ≤ m → ⊥) → m ≤ j
+      out j m h = grind arith
+
+  pub above_here : (p c : ℕ) → 1 ≤ c → c ≤ r.count →
+      cond (nat_lt p (frame_at r.frames (c - 1)).rank) (frame_at r.frames (c - 1)).budget 0 ≡ row_above r p c
+  above_here p zero h l = absurd (not-suc-le-zero h)
+  above_here p (suc j) h l = ap (λ f. cond (nat_lt p f.rank) f.budget 0) (frame_here j l)
 
   -- the sums that the code makes
   pub sum_small : (p x n : ℕ) → 1 ≤ x → x ≤ r.count → successive (row_above r p) r.count x n ≤ n * 4095
@@ -89,6 +119,25 @@ framed_kind = record {
 }
 
 -- a row of too many classes
+pub fault_many : (r : FrameRow) → 8 < r.count → Some (denied Ranks 0 28) ≡ framed_row_fault r
+unfolding framed_row_fault
+fault_many r h = rw (lt-ltb 8 r.count h)
+
+-- a row's fault by that of its first n frames, and a row without fault is good
+module _ (r : FrameRow) (n : ℕ) (o : Option Denial) (e : n ≡ r.count) (h : r.count ≤ 8) where
+  pub fault_past : o ≡ framed_fault 0 0 r.gap (take n r.frames) → o ≡ framed_row_fault r
+  unfolding framed_row_fault
+  fault_past v = v ∙ (ap (λ m. framed_fault 0 0 r.gap (take m r.frames)) e ∙ rw (le-ltb 8 r.count h))
+
+  pub faultless : r.count ≤ length r.frames →
+      IfNone o (SoundFramed (record { gap = r.gap; frames = take n r.frames })) → IfNone o (GoodFramed r)
+  faultless l s = good o (subst (λ m. IfNone o (SoundFramed (record { gap = r.gap; frames = take m r.frames }))) e s)
+    where
+      good : (o : Option Denial) → IfNone o (SoundFramed (framed_of r)) → IfNone o (GoodFramed r)
+      good None s = record { some = omega (arith, s.classes.0, length-take r.count r.frames); few = h; whole = l; sound = s }
+      good (Some d) s = tt
+
+-- the refusal of a row of too many classes
 pub refused_many : (r : FrameRow) → 8 < r.count → (d : Denial) → d ≡ denied Ranks 0 28 →
     ◌≡◌ {A = Result (Unit {0}) Denial} (Err d) (unless (framed_row_fault r) tt)
 unfolding framed_row_fault

@@ -1,18 +1,22 @@
 -- The rows of the two tables: what each says, its first fault, and the rules that it keeps. Assumes nothing.
-use Rattle.std.specs.Prelude.{ℕ, ◌+◌, ◌<◌, ◌≤◌, length, take, Option, nat_lt, replicate}
+use Rattle.std.specs.Prelude.{ℕ, ◌+◌, ◌-◌, ◌<◌, ◌≤◌, length, take, Option, nat_le, nat_lt, slice_index, replicate}
 use Rattle.std.specs.Option.{option_or}
 use Rattle.denial.specs.declared.Denial.{Denial}
 use Rattle.denial.specs.declared.Rule.TheVariants.{Ranks}
 use Rattle.denial.specs.Numbers.{denied}
+use Rattle.group.specs.declared.meaning.Outcome.{Outcome}
+use Rattle.group.specs.declared.meaning.Outcome.TheVariants.{Finish, Miss}
+use Rattle.group.specs.declared.meaning.Terms.{Terms}
 use Rattle.group.specs.Task.{Task}
 use Rattle.denial.specs.Checks.{when}
-use Rattle.plate.specs.Faults.{counted_fault, framed_fault}
+use Rattle.plate.specs.Faults.{frame_at, counted_fault, framed_fault}
 use Rattle.plate.specs.Plans.{SoundCounted, SoundFramed}
 use Rattle.plate.specs.Rows.{Counted, Framed}
 use Rattle.kinds.specs.declared.rows.MissCountedRow.{MissCountedRow}
 use Rattle.kinds.specs.declared.rows.FrameRow.{FrameRow}
+use Rattle.kinds.specs.Cycle.{next_class}
 use Rattle.kinds.specs.MissCounted.{counted_task}
-use Rattle.kinds.specs.Frames.{framed_task, frame_above}
+use Rattle.kinds.specs.Frames.{framed_task, frame_terms, frame_above}
 
 -- how many classes a miss-counted row has
 abbrev pub counted_classes : MissCountedRow → ℕ
@@ -32,6 +36,15 @@ pub record GoodCounted (r : MissCountedRow) : Type 0 where
   pub few : r.misses ≤ 7
   pub whole : r.misses < length r.ranks
   pub sound : SoundCounted (counted_of r)
+
+-- the terms of one of its classes, from 1 on
+abbrev pub counted_class : MissCountedRow → ℕ → Terms
+counted_class r c = record { rank = slice_index r.ranks (c - 1); budget = r.budget; tolerated = nat_le c r.misses }
+
+-- the class of a miss-counted task of k classes after a job
+abbrev pub counted_next : ℕ → Outcome → ℕ → ℕ
+counted_next k Finish x = 1
+counted_next k Miss x = next_class k x
 
 -- the task that it means
 abbrev pub counted_row_task : MissCountedRow → Task
@@ -56,6 +69,10 @@ pub record GoodFramed (r : FrameRow) : Type 0 where
   pub few : r.count ≤ 8
   pub whole : r.count ≤ length r.frames
   pub sound : SoundFramed (framed_of r)
+
+-- the terms of one of its frames, from 1 on
+abbrev pub framed_class : FrameRow → ℕ → Terms
+framed_class r c = frame_terms (frame_at r.frames (c - 1))
 
 -- the task that it means
 abbrev pub framed_row_task : FrameRow → Task

@@ -1,5 +1,5 @@
 -- Kinds of rows, and what a table of rows of one kind tells. Assumes nothing.
-use Rattle.std.specs.Prelude.{◌≡◌, ℕ, ◌<◌, ◌≤◌, List, [], ◌∷◌, ◌++◌, map, length, Option, nat_lt, slice_index_or}
+use Rattle.std.specs.Prelude.{◌≡◌, ℕ, ◌<◌, ◌≤◌, List, [], ◌∷◌, ◌++◌, map, length, Option, nat_lt, slice_index, slice_index_or}
 use Rattle.std.specs.Option.{option_or}
 use Rattle.denial.specs.declared.Denial.{Denial}
 use Rattle.denial.specs.declared.Rule.TheVariants.{RowCounts}
@@ -27,6 +27,14 @@ pub record Kind (R : Type 0) : Type 1 where
   pub sound : (r : R) → good r → Sound (says r)
   pub counts : (r : R) → good r → Counts r (task (says r))
   pub attained : (r : R) → good r → Attained (task (says r))
+
+-- each row is good: it keeps the rules of its kind
+abbrev pub Keeps : {R : Type 0} → (R → Type 0) → R → List R → ℕ → Type 0
+Keeps good none rows len = (i : ℕ) → i < len → ∥ good (slice_index_or rows i none) ∥₁
+
+-- each row is at one of its classes
+abbrev pub Placed : {R : Type 0} → (R → ℕ) → R → List R → List ℕ → ℕ → Type 0
+Placed classes none rows places len = (i : ℕ) → i < len → (1 ≤ slice_index places i) × (slice_index places i ≤ classes (slice_index_or rows i none))
 
 -- a good row that stands at place i of the rows, and so means task i
 pub record RowAt {R X : Type 0} (good : R → Type 0) (classes : R → ℕ) (says : R → X) (task : X → Task) (rows : List X) (i : ℕ) (r : R) : Type 0 where

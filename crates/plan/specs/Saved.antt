@@ -1,10 +1,10 @@
 -- Rows of the tables, by their bytes, and their writing.
-use Rattle.std.specs.Prelude.{◌≡◌, ℕ, ◌+◌, ◌*◌, ◌<◌, ◌≤◌, false, ltb, List, ◌++◌, length, take, Some, None, Option, Ok, Err, Result, ◌==◌, nat_lt, slice_index_or, refl}
+use Rattle.std.specs.Prelude.{◌≡◌, ℕ, zero, suc, ◌+◌, ◌*◌, ◌<◌, ◌≤◌, false, ltb, List, [], ◌∷◌, ◌++◌, map, length, take, Some, None, Option, Ok, Err, Result, ◌==◌, nat_lt, slice_index_or, refl}
 use Rattle.std.proofs.Common.{append_assoc, sym, ap, ◌∙◌, arith}
 use Rattle.std.specs.Option.{option_or}
-use Rattle.std.specs.List.{flat_map}
+use Rattle.std.specs.List.{flat_map, AllByRecursion}
 use Rattle.std.proofs.lemmas.List.Folds.{flat_map-map, length-flat_map-take}
-use Rattle.std.proofs.lemmas.List.{length-append}
+use Rattle.std.proofs.lemmas.List.{get_or-map, get_or_past, length-append, length-map}
 use Rattle.std.proofs.lemmas.Bool.{le-ltb, eqb-false, ltb-false}
 use Rattle.denial.specs.declared.Rule.TheVariants.{RowCounts, Room}
 use Rattle.denial.specs.Numbers.{denied}
@@ -26,7 +26,20 @@ use Rattle.kinds.specs.declared.rows.FrameRow.{FrameRow}
 use Rattle.kinds.specs.Rows.{GoodCounted, counted_of, GoodFramed, framed_of}
 use Rattle.plan.specs.Saves.{save_refusal, save_fault, bytes_of}
 
+-- the bytes of row i, and none past the last
+pub bytes_at : {X : Type 0} (f : X → List ℕ) (rows : List X) (i : ℕ) (x : X) → i < length rows → ((d : X) → slice_index_or rows i d ≡ x) → slice_index_or (map f rows) i [] ≡ f x
+bytes_at f rows i x l stands = get_or-map f rows i x [] l ∙ ap f (stands x)
+
+pub bytes_past : {X : Type 0} (f : X → List ℕ) (rows : List X) (i : ℕ) → length rows ≤ i → slice_index_or (map f rows) i [] ≡ []
+bytes_past f rows i h = get_or_past (map f rows) i [] (rw (length-map rows f) h)
+
 -- no row has more than 26 bytes
+pub bytes_short : {X : Type 0} (f : X → List ℕ) (P : X → Type 0) → ((x : X) → P x → length (f x) ≤ 26) → (rows : List X) → AllByRecursion P rows
+    → (i : ℕ) → length (slice_index_or (map f rows) i []) ≤ 26
+bytes_short f P h [] w i = omega arith
+bytes_short f P h (x ∷ rows) w zero = h x w.0
+bytes_short f P h (x ∷ rows) w (suc i) = bytes_short f P h rows w.1 i
+
 pub counted_short : (c : Counted) → SoundCounted c → length (counted_bytes c) ≤ 26
 counted_short c s = let w = s.classes in omega arith
 

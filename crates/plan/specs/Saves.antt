@@ -17,6 +17,10 @@ save_refusal rows size len = option_or (when (rows == 0) (denied RowCounts 255 4
 abbrev pub save_fault : Plan → (len : ℕ) → Option Denial
 save_fault plan len = save_refusal (length plan.counted + length plan.framed) (length (encode plan)) len
 
+-- lists one after another
+abbrev pub concat : List (List ℕ) → List ℕ
+concat xss = flat_map (λ xs. xs) xss
+
 -- the bytes of a table's rows, one after another
 abbrev pub bytes_of : {R : Type 0} {g : Ghosts R} → (R → List ℕ) → Table R g → List ℕ
 bytes_of bytes t = flat_map (λ e. bytes e.row) t.entries.items

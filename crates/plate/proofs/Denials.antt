@@ -1,5 +1,5 @@
 -- How the parts of a row, as they are read, make up its first fault.
-use Rattle.std.proofs.Common.{◌≡◌, ℕ, ◌+◌, ◌-◌, ◌*◌, ◌/◌, ◌%◌, ◌<◌, ◌≤◌, not, eqb, List, length, get_or, take, drop, None, Option, sym, arith}
+use Rattle.std.proofs.Common.{◌≡◌, ℕ, ◌+◌, ◌-◌, ◌*◌, ◌/◌, ◌%◌, ◌<◌, ◌≤◌, not, eqb, List, length, get_or, take, drop, Some, None, Option, sym, arith}
 use Rattle.std.specs.Option.{option_or}
 use Rattle.std.proofs.lemmas.List.{take_rest, length-drop}
 use Rattle.std.proofs.lemmas.Bool.{le-ltb}
@@ -11,6 +11,16 @@ use Rattle.denial.specs.Checks.{when}
 use Rattle.plate.specs.Plans.{counts_fault, header_denial}
 use Rattle.plate.proofs.Fields.{header_edition, header_counted, header_framed}
 use Rattle.plate.specs.Rows.{short_fault, ranks_count, counted_content, counted_denial, frames_count, framed_content, framed_denial}
+
+-- A miss-counted row at bit p whose fixed fields are there: bs' is the plate after they were read, and place the bit after them.
+pub counted_short : (bs bs' : List ℕ) (p row classes place : ℕ) (d : Denial)
+    → bs' ≡ bs → classes ≡ ranks_count bs p → place ≡ p + 32
+    → None ≡ short_fault bs row (p / 8 + 4) → Some d ≡ short_fault bs' row (place / 8 + classes)
+    → counted_denial bs p row ≡ Some d
+unfolding counted_denial
+counted_short bs bs' p row classes place d eb ec ep enough lacks =
+    let e : Some d ≡ short_fault bs row ((p + 32) / 8 + ranks_count bs p) = rw (eb, ep, ec) at lacks in
+    rw (← enough, ← e)
 
 -- A miss-counted row at bit p whose fixed fields and rank bytes are there: bs' is the plate after they were read, and place the bit
 -- after its fixed fields.
@@ -25,7 +35,17 @@ counted_whole bs bs' p row gap budget classes spare place ranks o eb eg eu ec es
     let e : None ≡ short_fault bs row ((p + 32) / 8 + ranks_count bs p) = rw (eb, ep, ec) at more in
     rw (← enough, ← e) (rw (er, eg, eu, es, eb, ep, ec) at (sym found))
 
--- The same of a frame row.
+-- The same of a frame row whose fixed fields are there.
+pub framed_short : (bs bs' : List ℕ) (p row count place : ℕ) (d : Denial)
+    → bs' ≡ bs → count ≡ frames_count bs p → place ≡ p + 16
+    → None ≡ short_fault bs row (p / 8 + 2) → Some d ≡ short_fault bs' row (place / 8 + 3 * count)
+    → framed_denial bs p row ≡ Some d
+unfolding framed_denial
+framed_short bs bs' p row count place d eb ec ep enough lacks =
+    let e : Some d ≡ short_fault bs row ((p + 16) / 8 + 3 * frames_count bs p) = rw (eb, ep, ec) at lacks in
+    rw (← enough, ← e)
+
+-- And of a frame row whose frame bytes are there too.
 pub framed_whole : (bs bs' : List ℕ) (p row gap count spare place : ℕ) (bytes : List ℕ) (o : Option Denial)
     → bs' ≡ bs → gap ≡ field bs p 12 → count ≡ frames_count bs p
     → spare ≡ field bs (p + 15) 1 → place ≡ p + 16 → bytes ≡ take (3 * count) (drop (place / 8) bs')

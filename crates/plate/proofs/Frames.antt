@@ -1,10 +1,10 @@
 -- Laws of frame bytes.
-use Rattle.std.proofs.Common.{◌≡◌, ℕ, zero, suc, ◌+◌, ◌-◌, ◌*◌, ◌/◌, ◌<◌, ◌≤◌, List, [], ◌∷◌, ◌++◌, length, get_or, take, replicate, MatchOption, Some, None, Option, sym, refl, ◌∙◌, subst, inl, inr, arith}
+use Rattle.std.proofs.Common.{◌≡◌, ℕ, zero, suc, ◌+◌, ◌-◌, ◌*◌, ◌/◌, ◌<◌, ◌≤◌, min, List, [], ◌∷◌, ◌++◌, length, get_or, take, set, replicate, MatchOption, Some, None, Option, sym, refl, ap, ◌∙◌, append_assoc, subst, inl, inr, arith}
 use denote.Param.Members.{Mut, Called}
 use Rattle.std.specs.Option.{unwrap_or}
 use Rattle.std.specs.Array.{IsFromFnResultFrom}
 use Rattle.std.proofs.lemmas.Bool.{cases_lt}
-use Rattle.std.proofs.lemmas.List.{length-take-le, length-append, ext_get_or, get_or-take, get_or_append_left, get_or-append_right, get_or-replicate, get_or_past, take-take, take_at}
+use Rattle.std.proofs.lemmas.List.{length-take-le, set_at, take_more, take-replicate, length-append, ext_get_or, get_or-take, get_or_append_left, get_or-append_right, get_or-replicate, get_or_past, take-take, take_at}
 use Rattle.plate.specs.declared.frame.Frame.{Frame}
 use Rattle.plate.specs.Bits.{field}
 use Rattle.plate.specs.Rows.{frames_of, padded}
@@ -36,6 +36,33 @@ frames_at (a ∷ (b ∷ (c ∷ bs))) (suc i) d h =
     let e : field bs (24 * i) 12 ≡ field all (24 * suc i) 12 = rw p at (field_drop all 3 (24 * i) 12) in
     let f : field bs (24 * i + 12) 8 ≡ field all (24 * suc i + 12) 8 = rw q at (field_drop all 3 (24 * i + 12) 8) in
     rw (frames_at bs i d (omega arith), e, f)
+
+-- one frame more in front of the zeros
+pub padded_more : (fs gs : List Frame) (i : ℕ) (x d : Frame) → i < length fs → i < 8 → get_or fs i x ≡ x
+    → gs ≡ take i fs ++ replicate (8 - i) d → set gs i x ≡ take (i + 1) fs ++ replicate (8 - (i + 1)) d
+padded_more fs gs i x d l h e w =
+    let n : 8 - i ≡ suc (8 - (i + 1)) = omega arith in
+    let size : length (take i fs) ≡ i = length-take-le i fs (omega arith) in
+    let put = set_at (take i fs) d (replicate (8 - (i + 1)) d) x i size in
+    let more = take_more fs i x l in
+    rw (w, n, more, e) (put ∙ sym (append_assoc (take i fs) (x ∷ []) (replicate (8 - (i + 1)) d)))
+
+-- all of them, or the first n, before the others
+pad : (fs : List Frame) (n m i : ℕ) (d : Frame) → n ≤ m → i ≡ min (length fs) n
+    → take i fs ++ replicate (n - i) d ≡ take n (fs ++ replicate m d)
+pad [] n m i d h e =
+    let none : i ≡ 0 = omega arith in
+    let all : n - 0 ≡ n = omega arith in
+    rw (none, all) (sym (take-replicate n m d h))
+pad (f ∷ fs) zero m i d h e = let none : i ≡ 0 = omega arith in rw none
+pad (f ∷ fs) (suc n) m i d h e =
+    let k : ℕ = min (length fs) n in
+    let one : i ≡ suc k = omega arith in
+    let left : suc n - suc k ≡ n - k = omega arith in
+    rw (one, left) (ap (λ t. f ∷ t) (pad fs n m k d (omega arith) refl))
+
+pub padded_all : (fs : List Frame) (i : ℕ) (d : Frame) → i ≡ min (length fs) 8 → take i fs ++ replicate (8 - i) d ≡ take 8 (fs ++ replicate 8 d)
+padded_all fs i d e = pad fs 8 8 i d (omega arith) e
 
 -- the frame that stands at i, or zeros
 pub frame_or : (fs : List Frame) (i : ℕ) (o : Option Frame) → MatchOption o (length fs ≤ i) (λ f. (i < length fs) × (f ≡ get_or fs i zeros))

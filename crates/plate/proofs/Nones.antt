@@ -1,5 +1,5 @@
 -- What it means that nothing is at fault.
-use Rattle.std.proofs.Common.{◌≡◌, ℕ, zero, suc, ◌<◌, Bool, true, false, cond, ◌||◌, eqb, ltb, Some, None, Ok, Err, Option, refl, inl, inr, arith}
+use Rattle.std.proofs.Common.{◌≡◌, ℕ, zero, suc, ◌<◌, Bool, true, false, cond, ◌||◌, eqb, ltb, IfNone, Some, None, Ok, Err, Option, refl, inl, inr, arith}
 use Rattle.std.specs.Option.{option_or, option_map}
 use Rattle.std.proofs.lemmas.Bool.{cases_order, or_parts, or_from, ltb-false, eqb-false, le-ltb, ne_eqb}
 use Rattle.denial.specs.declared.Denial.{Denial}
@@ -49,6 +49,11 @@ ranged n high e =
 
 pub in_range : (n high : ℕ) → Within 1 high n → (eqb n 0 || ltb high n) ≡ false
 in_range n high w = or_from (eqb n 0) (ltb high n) (ne_eqb n 0 (omega arith)) (le-ltb high n w.1)
+
+-- what follows where there is no fault
+pub unless_some : (o : Option Denial) (P : Type 0) → (o ≡ None → P) → IfNone o P
+unless_some None P h = h refl
+unless_some (Some d) P h = tt
 
 -- a value came, so there was no fault
 pub unless_ok : {A : Type 0} (o : Option Denial) (x h : A) → Ok h ≡ unless o x → (o ≡ None) × (h ≡ x)

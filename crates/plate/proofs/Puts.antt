@@ -27,6 +27,11 @@ joined_more f xs i d l = ap (flat_map f) (take_more xs i d l) ∙ pushed f (take
     pushed f [] y = append-nil (f y)
     pushed f (z ∷ zs) y = ap (λ t. f z ++ t) (pushed f zs y) ∙ sym (append_assoc (f z) (flat_map f zs) (f y))
 
+-- what was put in, by its two parts
+pub put_both : (bs out x y front rest : List ℕ) (at : ℕ) → out ≡ put_at bs at (x ++ y) → x ≡ front → y ≡ rest
+    → out ≡ put_at bs at (front ++ rest)
+put_both bs out x y front rest at e f g = e ∙ rw (f, g)
+
 -- two parts, the second right after the first
 pub put_put : (bs xs ys : List ℕ) (a : ℕ) → a + length xs ≤ length bs
     → put_at (put_at bs a xs) (a + length xs) ys ≡ put_at bs a (xs ++ ys)

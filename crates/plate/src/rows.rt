@@ -61,7 +61,7 @@ impl CountedHead {
 }
 
 // A miss-counted row: its fixed fields, and a rank byte for each class.
-#[tactic(auto, unfolding(crate::specs::Rows::counted_denial))]
+#[tactic(auto, using(crate::proofs::Denials::counted_short, crate::proofs::Denials::counted_whole), unfolding(crate::specs::Rows::counted_denial))]
 pub(crate) fn counted_row<'a>(cursor: &mut Cursor<'a>, start: RowStart) -> Result<Row<'a>, Denial>
     requires { cursor.old.place ≡ start.place }
     ensures plate { cursor.new.plate.now ≡ cursor.old.plate.now }
@@ -137,7 +137,7 @@ fn check_unpacked(start: RowStart, gap: u16, bytes: &[u8]) -> Result<(), Denial>
 }
 
 // A frame row: its fixed fields, and three bytes for each frame.
-#[tactic(auto, unfolding(crate::specs::Rows::framed_denial))]
+#[tactic(auto, using(crate::proofs::Denials::framed_short, crate::proofs::Denials::framed_whole), unfolding(crate::specs::Rows::framed_denial))]
 pub(crate) fn framed_row<'a>(cursor: &mut Cursor<'a>, start: RowStart) -> Result<Row<'a>, Denial>
     requires { cursor.old.place ≡ start.place }
     ensures plate { cursor.new.plate.now ≡ cursor.old.plate.now }

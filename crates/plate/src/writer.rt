@@ -98,6 +98,7 @@ fn end_within(len: usize, at: usize, size: usize) -> Result<usize, Denial>
 }
 
 // Writes a row from byte `at` on, and leaves all other bytes as they were: the byte after it.
+#[tactic(auto, using(crate::proofs::Puts::put_is))]
 fn write_row(out: &mut [u8], at: usize, front: &[u8], rest: &[u8]) -> Result<usize, Denial>
     requires { length front.now + length rest.now ≤ 26 }
     ensures result { result ≡ unless (room_fault (length out.old) at (length front.now + length rest.now))

@@ -55,12 +55,12 @@ pub told : (bs : List ℕ) → Bytes bs → Told bs
 unfolding sheet_text
 told bs b = told_of bs b (decode bs) refl
 
-short_of : (bs : List ℕ) → Bytes bs → (r : Result Plan Denial) → decode bs ≡ r → length (front_of r ++ verdict_line (fault_of r)) ≤ length (front_of r) + 26
+short_of : (bs : List ℕ) → Bytes bs → (r : Result Plan Denial) → decode bs ≡ r → length (front_of r ++ verdict_line (fault_of r)) ≤ length (front_of r) + 38
     → length (front_of r ++ verdict_line (fault_of r)) ≤ 4830
 short_of bs b (Ok plan) e h = let s = (read_is_written bs b plan e).0 in text_short (plan_tasks plan) (tasks_of_plan plan s) (plan_lawful plan s)
 short_of bs b (Err d) e h = omega arith
 
-pub short : (bs : List ℕ) → Bytes bs → length (sheet_text bs) ≤ length (front_of (decode bs)) + 26 → length (sheet_text bs) ≤ 4830
+pub short : (bs : List ℕ) → Bytes bs → length (sheet_text bs) ≤ length (front_of (decode bs)) + 38 → length (sheet_text bs) ≤ 4830
 unfolding sheet_text
 short bs b h = short_of bs b (decode bs) refl h
 

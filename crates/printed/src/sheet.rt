@@ -1,5 +1,5 @@
 // The sheet of a plate.
-ghost use Rattle.std.specs.Prelude.{◌≡◌, ◌^◌, ◌<◌, ◌≤◌, ◌++◌, length, IfOk, MatchResult};
+ghost use Rattle.std.specs.Prelude.{◌≡◌, ◌^◌, ◌<◌, ◌≤◌, [], ◌++◌, length, IfOk, MatchResult};
 ghost use Rattle.denial.specs.Checks.{unless};
 ghost use Rattle.plate.specs.Plans.{Refused, decode};
 ghost use Rattle.plate.specs.Writing.{left};
@@ -52,16 +52,16 @@ fn put_front(text: &mut Text, plate: &[u8], scratch: &mut [u8; 256]) -> Result<(
     start(plan, scratch)
 }
 
-// The sheet as text. (`plate` and `scratch` are what `print_sheet` is given.)
-fn sheet_of(plate: &[u8], scratch: &mut [u8; 256]) -> Text
-    ensures text { result.bytes ≡ sheet_text plate.now }
+// Puts the sheet into a text that is empty yet, which is lent: the text is large, and one that was handed back would stand on the
+// stack once more for each call. (`plate` and `scratch` are what `print_sheet` is given.)
+fn put_sheet(text: &mut Text, plate: &[u8], scratch: &mut [u8; 256])
+    requires { text.old.bytes ≡ [] }
+    ensures text { text.new.bytes ≡ sheet_text plate.now }
     ensures scratch { scratch.new ≡ marks_of (decode plate.now) scratch.old }
     ensures told { Told plate.now }
 {
-    let mut text = Text::new();
-    let started = put_front(&mut text, plate, scratch);
+    let started = put_front(text, plate, scratch);
     text.push_str(verdict(started).as_str());
-    text
 }
 
 // Prints the sheet of a plate into the caller's bytes: how many bytes it has, or 8 with the bytes needed, and then all bytes stay.
@@ -74,7 +74,8 @@ pub fn print_sheet(plate: &[u8], scratch: &mut [u8; 256], out: &mut [u8]) -> Res
     ensures short { length (sheet_text plate.now) ≤ 4830 }
     ensures told { Told plate.now }
 {
-    let text = sheet_of(plate, scratch);
+    let mut text = Text::new();
+    put_sheet(&mut text, plate, scratch);
     let needed = text.len();
     check_room(needed, out.len())?;
     out[..needed].copy_from_slice(text.as_str().as_bytes());

@@ -1,17 +1,9 @@
-use Rattle.std.proofs.Common.{None, ◌∙◌, rules}
-use Rattle.group.specs.Task.{at}
-use Rattle.dispatcher.specs.State.{state_of, slot_of}
-use Rattle.dispatcher.specs.Keys.{expiry_key}
-use Rattle.dispatcher.proofs.Chooses.{made, expiry_found}
+use Rattle.std.proofs.Common.{◌∙◌}
+use Rattle.dispatcher.proofs.Chooses.{expiry_found}
 use Rattle.dispatcher.proofs.board.Dispatcher.next_expiry.Goals as goal
 
 pub returns : goal.returns
 returns g c =
     let d = c.args.self.now in
-    let ts = g.G.Group.tasks d.group in
-    let ps = g.G.Group.places d.group in
-    let s = state_of d.clock d.started ps d.table.seats in
-    let i = c.from_fn-ticks_left.ensures.items in
     c.numbered.ensures ∙ c.foremost.ensures.place
-    ∙ expiry_found ts d.clock d.started ps d.table.seats (g.met.G.Group.placed d.group) d.table.sized c.from_fn-ticks_left.result i.long
-    (λ j l. made _ (λ i. expiry_key (at ts i).gap i d.clock (slot_of s i)) _ (λ i y q k. search rules) c.from_fn-ticks_left.result 64 j None i l)
+    ∙ expiry_found (g.G.Group.tasks d.group) d.clock d.started (g.G.Group.places d.group) d.table.seats (g.met.G.Group.placed d.group) d.table.sized c.all_left.result c.all_left.ensures
