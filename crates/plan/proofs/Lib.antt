@@ -1,3 +1,4 @@
 pub mod Afters
 pub mod Takes
 pub mod Fills
+pub mod Handed
