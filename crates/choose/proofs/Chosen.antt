@@ -30,34 +30,39 @@ paired p = option_map (λ k. (p.0, k)) p.1
 abbrev pub least_pair : {K : Type 0} → (K → K → Ordering) → ℕ × K → ℕ × K → ℕ × K
 least_pair R p q = min_by_ordering (R p.1 q.1) p q
 
--- its key is the lesser of the two
-key_of : {K : Type 0} (o : Ordering) (p q : ℕ × K) → min_by_ordering o p.1 q.1 ≡ (min_by_ordering o p q).1
-key_of Less p q = refl
-key_of Equal p q = refl
-key_of Greater p q = refl
+-- What `min_by_key` does with pairs, by a function that reads a key of each: from the first pair on it keeps the lesser one. The keys
+-- that are read may be of another type, so far as their order R is that of the pairs' own keys.
+module _ {K L F : Type 0} (C : K → K → Ordering) (R : L → L → Ordering) (g : Mut F (Bor (ℕ × K) × Unit {0}) L) (f : F)
+    (stays : (x : ℕ × K) (k : L) (q : F) → CalledAt g f x k q → q ≡ f)
+    (agrees : (x y : ℕ × K) (k l : L) (q r : F) → CalledAt g f x k q → CalledAt g f y l r → R k l ≡ C x.1 y.1) where
+  -- the key that was read of a pair
+  abbrev Read : L → ℕ × K → Type 0
+  Read k p = (q : F) × CalledAt g f p k q
 
--- What `min_by_key` does with pairs, by a function that reads the key of each: from the first pair on it keeps the lesser one.
-module _ {K F : Type 0} (R : K → K → Ordering) (g : Mut F (Bor (ℕ × K) × Unit {0}) K) (f : F)
-    (reads : (x : ℕ × K) (k : K) (q : F) → CalledAt g f x k q → (q ≡ f) × (k ≡ x.1)) where
-  turns : (p : ℕ × K) (xs : List (ℕ × K)) (q : F × K) (y : ℕ × K) → FoldsTo {P = (F × K) × (ℕ × K)} (KeyTurn min_by_ordering min_by_ordering g R) ((f, p.1), p) xs (q, y)
-      → FoldsTo (λ b z c. c ≡ least_pair R b z) p xs y
-  turns p [] q y h = ap (λ t. t.1) h
-  turns p (x ∷ xs) q y (j, (k, o, c, e, a, b), h) =
-      let r = reads x k j.0.0 c in
-      let z : o ≡ R p.1 x.1 = sym e ∙ ap (R p.1) r.1 in
-      let n : j.1 ≡ least_pair R p x = b ∙ ap (λ o. min_by_ordering o p x) z in
-      let m : j.0.1 ≡ (least_pair R p x).1 = a ∙ ap (λ k. min_by_ordering o p.1 k) r.1 ∙ ap (λ o. min_by_ordering o p.1 x.1) z ∙ key_of (R p.1 x.1) p x in
-      let s : ◌≡◌ {A = (F × K) × (ℕ × K)} j ((f, (least_pair R p x).1), least_pair R p x) = λ i. ((r.0 i, m i), n i) in
-      (least_pair R p x, refl, turns (least_pair R p x) xs q y (rw (sym s) h))
+  kept : (o : Ordering) (k l : L) (p x : ℕ × K) → Read k p → Read l x → Read (min_by_ordering o k l) (min_by_ordering o p x)
+  kept Less k l p x a b = a
+  kept Equal k l p x a b = a
+  kept Greater k l p x a b = b
+
+  turns : (k : L) (p : ℕ × K) (xs : List (ℕ × K)) (q : F × L) (y : ℕ × K) → Read k p
+      → FoldsTo {P = (F × L) × (ℕ × K)} (KeyTurn min_by_ordering min_by_ordering g R) ((f, k), p) xs (q, y)
+      → FoldsTo (λ b z c. c ≡ least_pair C b z) p xs y
+  turns k p [] q y d h = ap (λ t. t.1) h
+  turns k p (x ∷ xs) q y d (j, (l, o, c, e, a, b), h) =
+      let z : o ≡ C p.1 x.1 = sym e ∙ agrees p x k l d.0 j.0.0 d.1 c in
+      let n : j.1 ≡ least_pair C p x = b ∙ ap (λ o. min_by_ordering o p x) z in
+      let m : j.0.1 ≡ min_by_ordering (C p.1 x.1) k l = a ∙ ap (λ o. min_by_ordering o k l) z in
+      let r = stays x l j.0.0 c in
+      let s : ◌≡◌ {A = (F × L) × (ℕ × K)} j ((f, min_by_ordering (C p.1 x.1) k l), least_pair C p x) = λ i. ((r i, m i), n i) in
+      (least_pair C p x, refl, turns (min_by_ordering (C p.1 x.1) k l) (least_pair C p x) xs q y (kept (C p.1 x.1) k l p x d (j.0.0, c)) (rw (sym s) h))
 
   -- `before`, the clause `runs` of the call before, shows the steps
   pub picks : {S : Type 0} {steps : S → Option (ℕ × K) → S → Type 0} {P : Run steps → Type 0} (s : S) (r : Option (ℕ × K)) → EachRunFrom steps s P → PicksMinByKey steps g R s f r
-      → MatchOption r (Drains steps s []) (λ y. (x : ℕ × K) × (xs : List (ℕ × K)) × Drains steps s (x ∷ xs) × FoldsTo (λ b z c. c ≡ least_pair R b z) x xs y)
+      → MatchOption r (Drains steps s []) (λ y. (x : ℕ × K) × (xs : List (ℕ × K)) × Drains steps s (x ∷ xs) × FoldsTo (λ b z c. c ≡ least_pair C b z) x xs y)
   picks s None before h = h
   picks s (Some y) before (x, xs, k, f', q, d, c, t) =
-      let r = reads x k f' c in
-      let e : ◌≡◌ {A = F × K} (f', k) (f, x.1) = λ i. (r.0 i, r.1 i) in
-      (x, xs, d, turns x xs q y (rw (sym e) t))
+      let e : ◌≡◌ {A = F × L} (f', k) (f, k) = λ i. (stays x k f' c i, k) in
+      (x, xs, d, turns k x xs q y (f', c) (rw (sym e) t))
 
 -- the least of what was found before, if anything was, and of more
 abbrev from : {A : Type 0} → (A → A → A) → Option A → List A → Option A

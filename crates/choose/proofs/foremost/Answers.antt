@@ -9,7 +9,7 @@ use Rattle.choose.proofs.foremost.Goals as goal
 pub returns-clause-place : goal.returns-clause-place
 returns-clause-place g c =
     let keys = c.args.keys.now in
-    let p = picks g.K.Ord.cmp _ _ (λ x k q h. search (rules, tests)) c.filter_map.result c.min_by_key.result c.filter_map.ensures.runs c.min_by_key.ensures.ran in
+    let p = picks g.K.Ord.cmp _ _ _ (λ x k q h. search (rules, tests)) (λ x y k l q r h m. search (rules, tests)) c.filter_map.result c.min_by_key.result c.filter_map.ensures.runs c.min_by_key.ensures.ran in
     let e : c.min_by_key.result ≡ reduce (least_pair g.K.Ord.cmp) (filter_map paired (enumerate_from 0 keys)) =
     reduce_from_yields_List (least_pair g.K.Ord.cmp) c.filter_map.result c.min_by_key.result p
     (YieldsList-from_filter_map _ paired
